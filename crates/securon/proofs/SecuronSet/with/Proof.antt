@@ -1,0 +1,21 @@
+-- `securon::SecuronSet::with` meets its contract: one mark put on adds that one member. Assumes nothing.
+use mathlib.Core.Path.{_≡_}
+use native.Mathlib.Omega.{arith}
+use borrow.Author.Needs.{needs}
+use lib.ListN.{length}
+use Rattle.securon.specs.Sets.{securons}
+use Rattle.securon.specs.Laws.{one-marked}
+use Rattle.securon.proofs.SecuronSet.with.Statement.{statement}
+use Rattle.securon.proofs.SecuronSet.with.Tie as tie
+
+cast-k : tie.Need-cast-k
+cast-k c = search needs
+
+element-write-r : tie.Need-element-write-r
+element-write-r c = search needs
+
+returns : tie.Need-returns
+returns c = one-marked (c .before .args .self .has) (c .before .args .s .0) (let g : length (c .before .args .self .has) ≡ securons = search needs in omega arith)
+
+pub with-spec : {M : Type 1} → statement M
+with-spec = tie.close (tie.spec cast-k element-write-r returns)

@@ -1,0 +1,25 @@
+-- Small laws of tests and of "exactly when". Assumes nothing.
+use mathlib.Core.Path.{_≡_, refl}
+use mathlib.Core.Bool.{Bool, true, false, _&&_, _||_, false≢true}
+use mathlib.Core.Logic.{_⊎_, inl, inr, ⊎-elim, _↔_}
+
+pub and-iff : (x y : Bool) {A B : Type 0} → (x ≡ true) ↔ A → (y ≡ true) ↔ B → ((x && y) ≡ true) ↔ (A × B)
+and-iff true y f g = ((λ e. (f .0 refl, g .0 e)), λ w. g .1 (w .1))
+and-iff false y f g = ((λ e. absurd (false≢true e)), λ w. f .1 (w .0))
+
+pub or-iff : (x y : Bool) {A B : Type 0} → (x ≡ true) ↔ A → (y ≡ true) ↔ B → ((x || y) ≡ true) ↔ (A ⊎ B)
+or-iff true y f g = ((λ e. inl (f .0 refl)), λ w. refl)
+or-iff false y f g = ((λ e. inr (g .0 e)), ⊎-elim (λ a. absurd (false≢true (f .1 a))) (g .1))
+
+pub iff-refl : {A : Type 0} → A ↔ A
+iff-refl = ((λ a. a), λ a. a)
+
+pub iff-sym : {A B : Type 0} → A ↔ B → B ↔ A
+iff-sym f = (f .1, f .0)
+
+pub iff-trans : {A B C : Type 0} → A ↔ B → B ↔ C → A ↔ C
+iff-trans f g = ((λ a. g .0 (f .0 a)), λ c. f .1 (g .1 c))
+
+-- a test that is not true is false, and the other way round
+pub not-then-false : {x : Bool} {A : Type 0} → (x ≡ true) ↔ A → x ≡ false → A → ⊥
+not-then-false {x} f e a = false≢true (rw e at (f .1 a))

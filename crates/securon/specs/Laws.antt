@@ -1,0 +1,84 @@
+-- The laws of marks, once over any number of them. Assumes nothing.
+use mathlib.Core.Path.{_≡_, refl, sym, _∙_}
+use mathlib.Core.Bool.{Bool, true, false, false≢true}
+use mathlib.Core.List.{List, [], _∷_}
+use mathlib.Core.Logic.{_⊎_, inl, inr, ⊎-elim, _↔_}
+use Prim.Native.Nat.{ℕ, zero, suc, _+_, _<_, _≤_, suc-le-suc}
+use native.Mathlib.Nat.{zero-lt-suc, not-suc-le-zero}
+use native.Mathlib.Decide.{ℕ-discrete}
+use native.Mathlib.Omega.{arith}
+use lib.ListN.{length, getD, set, replicate, length-set}
+use lib.Seq.{getD-set-same, getD-set-other}
+use Rattle.securon.specs.Sets.{only, _∪_, _≐_, marked}
+use Rattle.securon.specs.Iff.{iff-trans}
+
+-- who is marked stands among the marks
+pub within : (l : List Bool) (u : ℕ) → marked l u → u < length l
+within [] u e = absurd (false≢true e)
+within (x ∷ l) zero e = zero-lt-suc (length l)
+within (x ∷ l) (suc u) e = suc-le-suc (within l u e)
+
+-- where every mark is off, nobody is marked
+pub none-marked : (n u : ℕ) → marked (replicate n false) u → ⊥
+none-marked zero u e = false≢true e
+none-marked (suc n) zero e = false≢true e
+none-marked (suc n) (suc u) e = none-marked n u e
+
+-- one mark put on adds that one member
+pub one-marked : (l : List Bool) (s : ℕ) → s < length l → marked (set l s true) ≐ marked l ∪ only s
+one-marked l s h u = go (ℕ-discrete u s)
+  where
+    go : Dec (u ≡ s) → marked (set l s true) u ↔ (marked l u ⊎ (u ≡ s))
+    go (yes e) = ((λ _. inr e), λ _. rw e (getD-set-same l s true false h))
+    go (no n) = (
+      (λ m. inl (sym (getD-set-other l s u true false n) ∙ m)),
+      ⊎-elim (λ m. getD-set-other l s u true false n ∙ m) (λ e. absurd (n e)),
+    )
+
+-- marks past the last are off
+pub beyond : (l : List Bool) (u : ℕ) → length l ≤ u → marked l u → ⊥
+beyond l u h m = omega (arith, within l u m)
+
+-- r has the members of a and those of b below k
+pub record Joined (a b r : List Bool) (k : ℕ) : Type 0 where
+  pub long : length r ≡ length a
+  pub are : (u : ℕ) → marked r u ↔ (marked a u ⊎ (marked b u × (u < k)))
+
+pub joined-none : (a b : List Bool) → Joined a b a 0
+joined-none a b = record {
+  long = refl;
+  are = λ u. (inl, ⊎-elim (λ m. m) (λ w. absurd (not-suc-le-zero (w .1))));
+}
+
+module _ {a b r : List Bool} {k : ℕ} (j : Joined a b r k) where
+  pub joined-skip : getD b k false ≡ false → Joined a b r (k + 1)
+  joined-skip e = record {
+    long = j .long;
+    are = λ u. iff-trans (j .are u) (
+      ⊎-elim inl (λ w. inr (w .0, omega (arith, w .1))),
+      ⊎-elim inl (λ w. inr (w .0, go u w (ℕ-discrete u k))),
+    );
+  }
+    where
+      go : (u : ℕ) → marked b u × (u < k + 1) → Dec (u ≡ k) → u < k
+      go u w (yes q) = absurd (false≢true (sym e ∙ rw q at (w .0)))
+      go u w (no q) = omega (arith, w .1)
+
+  pub joined-mark : k < length a → getD b k false ≡ true → Joined a b (set r k true) (k + 1)
+  joined-mark h e = record {
+    long = length-set r k true ∙ j .long;
+    are = λ u. iff-trans (one-marked r k (omega (arith, j .long)) u) (
+      ⊎-elim (λ m. ⊎-elim inl (λ w. inr (w .0, omega (arith, w .1))) (j .are u .0 m)) (λ q. inr (rw q e, omega arith)),
+      ⊎-elim (λ m. inl (j .are u .1 (inl m))) (λ w. go u w (ℕ-discrete u k)),
+    );
+  }
+    where
+      go : (u : ℕ) → marked b u × (u < k + 1) → Dec (u ≡ k) → marked r u ⊎ (u ≡ k)
+      go u w (yes q) = inr q
+      go u w (no q) = inl (j .are u .1 (inr (w .0, omega (arith, w .1))))
+
+  pub joined-all : length b ≤ k → marked r ≐ marked a ∪ marked b
+  joined-all h u = iff-trans (j .are u) (
+    ⊎-elim inl (λ w. inr (w .0)),
+    ⊎-elim inl (λ m. inr (m, omega (arith, within b u m))),
+  )

@@ -1,0 +1,4 @@
+pub mod Sets
+pub mod Iff
+pub mod Every
+pub mod Laws
