@@ -7,7 +7,7 @@ use Prim.Native.Nat.{ℕ}
 use lib.Dec.{eqb}
 use lib.ListN.{getD}
 
-infixl 60 _∪_
+infixl 60 _∪_ _⊔_
 infix 40 _⊆_ _≐_
 -- the most securons that a tree has (01, "The tree": 1 to 64)
 abbrev pub securons : ℕ
