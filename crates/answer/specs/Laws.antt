@@ -1,12 +1,14 @@
 -- There is one answer, one thing left behind, and one place of a first fault. Assumes nothing.
 use mathlib.Core.Path.{_≡_, refl, sym, ap, ap₂, _∙_, subst}
 use mathlib.Core.List.{List, [], _∷_, _++_, append-assoc}
-use mathlib.Core.Logic.{_⊎_, inl, inr}
+use mathlib.Core.Logic.{_⊎_, inl, inr, _↔_}
 use Prim.Native.Nat.{ℕ, _+_, _<_, _≤_}
 use native.Mathlib.Decide.{decLt, ℕ-discrete}
+use native.Mathlib.Nat.{not-suc-le-zero}
 use native.Mathlib.Omega.{arith}
-use lib.ListN.{length, take, drop, take-append-drop}
-use lib.Seq.{take-take}
+use borrow.Author.Needs.{zero≤}
+use lib.ListN.{length, take, drop, length-append, take-append-drop}
+use lib.Seq.{take-take, take-append-add}
 use Rattle.answer.specs.declared.Answer.{Answer}
 use Rattle.answer.specs.Answers.{Condition, Decides, Granted, Leaves}
 use Rattle.answer.specs.Faults.{Begins, FaultAt}
@@ -74,3 +76,25 @@ module _ (Legal : List ℕ → Type 0) (bytes : List ℕ) where
       go : Dec (k < length bytes) → ⊥
       go (yes h) = f .there h (drop (k + 1) bytes, subst Legal (sym (take-append-drop (k + 1) bytes)) l)
       go (no n) = f .at-end (omega (arith, f .within)) l
+
+-- where what is legal after a front is M, a fault of M is one of the whole, further on by the front
+pub fault-after : (L M : List ℕ → Type 0) (front l : List ℕ) → ((r : List ℕ) → L (front ++ r) ↔ M r) → {k : ℕ} → FaultAt M l k → FaultAt L (front ++ l) (length front + k)
+fault-after L M front l goes {k} f = record {
+  within = rw (length-append front l) (omega (arith, f .within));
+  before = begins k (f .before);
+  there = λ h w. f .there (omega (arith, length-append front l)) (less (w .0) (w .1));
+  at-end = λ e w. f .at-end (omega (arith, length-append front l)) (goes l .0 w);
+}
+  where
+    begins : (j : ℕ) → Begins M (take j l) → Begins L (take (length front + j) (front ++ l))
+    begins j (r, m) = (r, rw (take-append-add front l j, append-assoc front (take j l) r) (goes (take j l ++ r) .1 m))
+
+    less : (r : List ℕ) → L (take (length front + k + 1) (front ++ l) ++ r) → Begins M (take (k + 1) l)
+    less r w =
+        let e : length front + k + 1 ≡ length front + (k + 1) = omega arith in
+        (r, goes (take (k + 1) l ++ r) .0 (rw (e, take-append-add front l (k + 1), append-assoc front (take (k + 1) l) r) at w))
+
+-- a fault at once: something legal there is, but nothing that begins with the next byte, nor is the end legal
+pub fault-here : (M : List ℕ → Type 0) (l : List ℕ) → Begins M [] → ((x : ℕ) (r t : List ℕ) → l ≡ x ∷ r → M (x ∷ t) → ⊥) → (l ≡ [] → M [] → ⊥) → FaultAt M l 0
+fault-here M [] b next end = record { within = zero≤; before = b; there = λ h _. absurd (not-suc-le-zero h); at-end = λ _. end refl }
+fault-here M (x ∷ r) b next end = record { within = zero≤; before = b; there = λ _ w. next x r (w .0) refl (w .1); at-end = λ e. absurd (omega arith) }

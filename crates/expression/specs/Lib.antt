@@ -1,2 +1,4 @@
 pub mod Expression
 pub mod Bytes
+pub mod Scan
+pub mod Heads

@@ -1,0 +1,144 @@
+-- `expression::scan` meets its contract: at the place reached, `due` whole expressions are to follow. The measure is what is left of the bytes. Assumes nothing.
+use mathlib.Core.Path.{_≡_, refl, sym, ap, _∙_, subst}
+use mathlib.Core.Bool.{Bool, true, false, false≢true}
+use mathlib.Core.List.{List, [], _∷_}
+use mathlib.Core.Logic.{inl, inr, ⊎-elim, _↔_}
+use Prim.Native.Nat.{ℕ, suc, _+_, _≤_, _<_, _-_}
+use native.Mathlib.Omega.{arith}
+use borrow.Author.Needs.{needs}
+use borrow.Author.Tests.{not-true, not-false}
+use lib.ListN.{length, getD, drop, length-drop}
+use Rattle.expression.specs.declared.Kind.{Kind}
+use Rattle.securon.specs.Iff.{not-then-false}
+use Rattle.expression.specs.Bytes.{MayOR, Finds}
+use Rattle.expression.specs.Heads.{Head}
+use Rattle.expression.proofs.Scanning.{At, from-drop, from-length, at-start, at-operator, at-term, at-stuck, at-over, at-whole, at-short, finds-stopped}
+use Rattle.expression.proofs.scan.Statement.{statement}
+use Rattle.expression.proofs.scan.Tie as tie
+
+-- a list of length 0 is none
+nil-of : (l : List ℕ) → length l ≡ 0 → l ≡ []
+nil-of [] e = refl
+nil-of (x ∷ l) e = absurd (omega arith)
+
+abbrev Inv-loop : tie.InvT-loop
+Inv-loop b n or d due₀ at₀ due at = (kind : Kind) → (or ≡ true) ↔ MayOR kind → At kind n d b due at
+
+abbrev μ-loop : tie.MeasureT-loop
+μ-loop b n or d due₀ at₀ due at = length b - at
+
+returns : tie.Need-returns Inv-loop μ-loop
+returns c = inl (nil-of _ (c .if1 .taken))
+
+may-or-requires : tie.Need-may-or-requires Inv-loop μ-loop
+may-or-requires c κs = search needs
+
+loop-holds : tie.Need-loop-holds Inv-loop μ-loop
+loop-holds c = λ kind m. at-start kind _ _ _
+
+returns-2 : tie.Need-returns-2 Inv-loop μ-loop
+returns-2 c = 
+    let a = c .before .before .loop .inv (c .before .before .before .before .before .before .args .kind) (c .before .before .before .may-or .ensures) in
+    (c .before .loop-test .taken, at-over _ _ _ a (c .before .before .before .before .before .before .pre) (c .if2 .taken) (c .before .loop-test .taken))
+
+sub-rest : tie.Need-sub-rest Inv-loop μ-loop
+sub-rest c = omega arith
+
+part-rest-start : tie.Need-part-rest-start Inv-loop μ-loop
+part-rest-start c = search needs
+
+part-rest-end : tie.Need-part-rest-end Inv-loop μ-loop
+part-rest-end c = search needs
+
+shared-slice-read-joins : tie.Need-shared-slice-read-joins Inv-loop μ-loop
+shared-slice-read-joins c = omega (arith, from-length (c .before .before .before .before .before .before .before .before .args .b .now) (c .before .before .before .before .loop .at))
+
+joins-requires : tie.Need-joins-requires Inv-loop μ-loop
+joins-requires c κs = search needs
+
+add-due : tie.Need-add-due Inv-loop μ-loop
+add-due c = let a = c .before .before .before .before .before .before .loop .inv (c .before .before .before .before .before .before .before .before .before .before .args .kind) (c .before .before .before .before .before .before .before .may-or .ensures) in omega (arith, a .few, c .before .before .before .before .before .before .before .before .before .before .good)
+
+add-at : tie.Need-add-at Inv-loop μ-loop
+add-at c = omega (arith, c .before .before .before .before .before .before .before .before .before .before .good)
+
+loop-less : tie.Need-loop-less Inv-loop μ-loop
+loop-less c = omega arith
+
+loop-again : tie.Need-loop-again Inv-loop μ-loop
+loop-again c = λ kind m.
+    at-operator kind _ _ (c .before .before .before .before .before .before .loop .inv kind m) (omega arith) (omega arith)
+        (⊎-elim inl (λ w. inr (w .0, m .0 (w .1))) (c .before .joins .ensures .0 (c .if3 .taken)))
+
+term-part-requires : tie.Need-term-part-requires Inv-loop μ-loop
+term-part-requires c κs = (c .before .before .before .before .before .before .before .before .before .before .pre, omega (arith, from-length (c .before .before .before .before .before .before .before .before .before .before .args .b .now) (c .before .before .before .before .before .before .loop .at)))
+
+add-stopped : tie.Need-add-stopped Inv-loop μ-loop
+add-stopped c = 
+    let h = c .before .before .term-part .ensures (c .before .before .before .before .before .before .before .before .before .before .before .before .before .args .kind) ((λ e. not-then-false (c .before .before .before .before .joins .ensures) (c .before .before .before .if3 .left) (inl e)), λ e may. not-then-false (c .before .before .before .before .joins .ensures) (c .before .before .before .if3 .left) (inr (e, c .before .before .before .before .before .before .before .before .before .before .may-or .ensures .1 may))) in
+    let w = subst (λ (x : ℕ). c .before .before .term-part .result .good ≤ x) (from-length (c .before .before .before .before .before .before .before .before .before .before .before .before .before .args .b .now) (c .before .before .before .before .before .before .before .before .before .loop .at)) (h .within) in
+    omega (arith, c .before .before .before .before .before .before .before .before .before .before .before .before .before .good)
+
+stopped-requires : tie.Need-stopped-requires Inv-loop μ-loop
+stopped-requires c κs = search needs
+
+returns-3 : tie.Need-returns-3 Inv-loop μ-loop
+returns-3 c = 
+    let h = c .before .before .before .term-part .ensures (c .before .before .before .before .before .before .before .before .before .before .before .before .before .before .args .kind) ((λ e. not-then-false (c .before .before .before .before .before .joins .ensures) (c .before .before .before .before .if3 .left) (inl e)), λ e may. not-then-false (c .before .before .before .before .before .joins .ensures) (c .before .before .before .before .if3 .left) (inr (e, c .before .before .before .before .before .before .before .before .before .before .before .may-or .ensures .1 may))) in
+    let f = at-stuck _ _ _ (c .before .before .before .before .before .before .before .before .before .before .loop .inv (c .before .before .before .before .before .before .before .before .before .before .before .before .before .before .args .kind) (c .before .before .before .before .before .before .before .before .before .before .before .may-or .ensures)) (omega arith) (omega arith) (subst (λ (x : Bool). Head _ _ _ _ x _) (not-true _ (c .before .if4 .taken)) h) in
+    finds-stopped _ _ _ f (c .stopped .ensures)
+
+sub-due : tie.Need-sub-due Inv-loop μ-loop
+sub-due c = omega arith
+
+add-at-2 : tie.Need-add-at-2 Inv-loop μ-loop
+add-at-2 c = 
+    let h = c .before .before .term-part .ensures (c .before .before .before .before .before .before .before .before .before .before .before .before .before .args .kind) ((λ e. not-then-false (c .before .before .before .before .joins .ensures) (c .before .before .before .if3 .left) (inl e)), λ e may. not-then-false (c .before .before .before .before .joins .ensures) (c .before .before .before .if3 .left) (inr (e, c .before .before .before .before .before .before .before .before .before .before .may-or .ensures .1 may))) in
+    let w = subst (λ (x : ℕ). c .before .before .term-part .result .good ≤ x) (from-length (c .before .before .before .before .before .before .before .before .before .before .before .before .before .args .b .now) (c .before .before .before .before .before .before .before .before .before .loop .at)) (h .within) in
+    omega (arith, c .before .before .before .before .before .before .before .before .before .before .before .before .before .good)
+
+loop-less-2 : tie.Need-loop-less-2 Inv-loop μ-loop
+loop-less-2 c = 
+    let h = c .before .before .term-part .ensures (c .before .before .before .before .before .before .before .before .before .before .before .before .before .args .kind) ((λ e. not-then-false (c .before .before .before .before .joins .ensures) (c .before .before .before .if3 .left) (inl e)), λ e may. not-then-false (c .before .before .before .before .joins .ensures) (c .before .before .before .if3 .left) (inr (e, c .before .before .before .before .before .before .before .before .before .before .may-or .ensures .1 may))) in
+    let w = subst (λ (x : ℕ). c .before .before .term-part .result .good ≤ x) (from-length (c .before .before .before .before .before .before .before .before .before .before .before .before .before .args .b .now) (c .before .before .before .before .before .before .before .before .before .loop .at)) (h .within) in
+    omega (arith, h .some (not-false _ (c .if4 .left)))
+
+loop-again-2 : tie.Need-loop-again-2 Inv-loop μ-loop
+loop-again-2 c = λ kind m.
+    at-term kind _ _ (c .before .before .before .before .before .before .before .before .before .loop .inv kind m) (omega arith) (subst (λ (x : Bool). Head kind _ _ _ x _) (not-false _ (c .if4 .left)) (c .before .before .term-part .ensures kind ((λ e. not-then-false (c .before .before .before .before .joins .ensures) (c .before .before .before .if3 .left) (inl e)), λ e may. not-then-false (c .before .before .before .before .joins .ensures) (c .before .before .before .if3 .left) (inr (e, m .1 may)))))
+
+returns-4 : tie.Need-returns-4 Inv-loop μ-loop
+returns-4 c = inr (at-whole _ _ _ (c .before .before .loop .inv (c .before .before .before .before .before .before .args .kind) (c .before .before .before .may-or .ensures)) (omega arith) (c .if5 .taken))
+
+returns-5 : tie.Need-returns-5 Inv-loop μ-loop
+returns-5 c = at-short _ _ _ (c .before .before .loop .inv (c .before .before .before .before .before .before .args .kind) (c .before .before .before .may-or .ensures)) (c .before .before .before .before .before .before .pre) (omega arith) (omega arith) (omega arith)
+
+pub scan-spec : {M : Type 1} → statement M
+scan-spec =
+    tie.close
+    (tie.spec
+    Inv-loop
+    μ-loop
+    returns
+    may-or-requires
+    loop-holds
+    returns-2
+    sub-rest
+    part-rest-start
+    part-rest-end
+    shared-slice-read-joins
+    joins-requires
+    add-due
+    add-at
+    loop-less
+    loop-again
+    term-part-requires
+    add-stopped
+    stopped-requires
+    returns-3
+    sub-due
+    add-at-2
+    loop-less-2
+    loop-again-2
+    returns-4
+    returns-5)
