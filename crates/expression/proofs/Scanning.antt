@@ -2,7 +2,7 @@
 use mathlib.Core.Path.{_≡_, refl, sym, ap, _∙_, subst}
 use mathlib.Core.List.{List, [], _∷_, _++_, append-assoc, append-nil}
 use mathlib.Core.Logic.{_⊎_, inl, inr, _↔_}
-use mathlib.Core.Bool.{true, false}
+use mathlib.Core.Bool.{Bool, true, false}
 use Prim.Native.Nat.{ℕ, suc, _+_, _-_, _<_, _≤_}
 use native.Mathlib.Nat.{add-zero, le-refl}
 use native.Mathlib.Omega.{arith}
@@ -77,20 +77,20 @@ module _ (kind : Kind) (n d : ℕ) where
           (λ w. fit (omega arith) (rest-or kind n d may (k - 1) r .1 (fit (omega arith) w))),
         )
 
-    module _ {good : ℕ} (p : 0 < k) where
+    module _ {whole : Bool} {good : ℕ} (p : 0 < k) (h : Head kind n d (from bs at) whole good) where
       -- a whole term is one expression less
-      pub at-term : Head kind n d (from bs at) true good → At bs (k - 1) (at + good)
-      at-term h =
+      pub at-term : whole ≡ true → At bs (k - 1) (at + good)
+      at-term e =
           let few : good ≤ length bs - at = subst (λ (x : ℕ). good ≤ x) (from-length bs at) (h .within) in
           at-next (k - 1) good (omega (arith, a .within)) (omega (arith, a .few)) (λ r.
-            let g = rw (from-drop bs at) at (h .full refl (k - 1) r) in
-            ((λ w. g .0 (fit (omega arith) w)), λ w. fit (omega arith) (g .1 w)))
+          let g = rw (from-drop bs at) at (h .full e (k - 1) r) in
+          ((λ w. g .0 (fit (omega arith) w)), λ w. fit (omega arith) (g .1 w)))
 
       -- a term that does not stand is the fault
-      pub at-stuck : 0 < length bs → Head kind n d (from bs at) false good → FaultAt (Right kind n d) bs (at + good)
-      at-stuck some h =
+      pub at-stuck : 0 < length bs → whole ≡ false → FaultAt (Right kind n d) bs (at + good)
+      at-stuck some w =
           let e : suc (k - 1) ≡ k = omega arith in
-          at-fault some (subst (λ (m : ℕ). FaultAt (Rest kind n d m) (drop at bs) good) e (rw (from-drop bs at) at (h .stuck refl (k - 1))))
+          at-fault some (subst (λ (m : ℕ). FaultAt (Rest kind n d m) (drop at bs) good) e (rw (from-drop bs at) at (h .stuck w (k - 1))))
 
     -- a byte after the whole is the fault
     pub at-over : 0 < n → k ≡ 0 → at < length bs → FaultAt (Right kind n d) bs at

@@ -13,8 +13,11 @@ pub const LONGEST: usize = 48;
 
 // The codes: 01 s; 02 s i j; 03 for AND; 04 for OR.
 pub const ONE: u8 = 1;
+
 pub const RANGE: u8 = 2;
+
 pub const AND: u8 = 3;
+
 pub const OR: u8 = 4;
 
 // A privilege expression has no OR; a protection expression may have it.

@@ -9,7 +9,7 @@ stuck-requires : tie.Need-stuck-requires
 stuck-requires c κs = search needs
 
 returns : tie.Need-returns
-returns c = 
+returns c =
     let a = c .before .before .before .args in
     let p = c .before .before .before .pre in
     λ kind d. head-stuck kind (a .n) d (c .stuck .ensures .0) (c .stuck .ensures .1) (p .1) (one-stuck kind (a .n) d (p .0) (a .rest .now) (p .1) (p .2) (λ h g. omega arith))
@@ -24,13 +24,13 @@ stuck-requires-2 : tie.Need-stuck-requires-2
 stuck-requires-2 c κs = search needs
 
 returns-2 : tie.Need-returns-2
-returns-2 c = 
+returns-2 c =
     let a = c .before .before .before .before .before .args in
     let p = c .before .before .before .before .before .pre in
     λ kind d. head-stuck kind (a .n) d (c .stuck2 .ensures .0) (c .stuck2 .ensures .1) (p .1) (one-stuck kind (a .n) d (p .0) (a .rest .now) (p .1) (p .2) (λ h g. omega arith))
 
 returns-3 : tie.Need-returns-3
-returns-3 c = 
+returns-3 c =
     let a = c .before .before .before .before .args in
     let p = c .before .before .before .before .pre in
     λ kind d. head-whole kind (a .n) d (omega arith) (omega arith) (one-whole kind (a .n) d (a .rest .now) (omega arith) (p .2) (omega arith))

@@ -9,7 +9,7 @@ stuck-requires : tie.Need-stuck-requires
 stuck-requires c κs = search needs
 
 returns : tie.Need-returns
-returns c = 
+returns c =
     let a = c .before .before .before .args in
     let p = c .before .before .before .pre in
     λ kind. head-stuck kind (a .n) (a .depth) (c .stuck .ensures .0) (c .stuck .ensures .1) (p .1) (securon-stuck kind (a .n) (a .depth) (p .0) (a .rest .now) (p .1) (p .2) (λ h g. omega arith))
@@ -24,7 +24,7 @@ stuck-requires-2 : tie.Need-stuck-requires-2
 stuck-requires-2 c κs = search needs
 
 returns-2 : tie.Need-returns-2
-returns-2 c = 
+returns-2 c =
     let a = c .before .before .before .before .before .args in
     let p = c .before .before .before .before .before .pre in
     λ kind. head-stuck kind (a .n) (a .depth) (c .stuck2 .ensures .0) (c .stuck2 .ensures .1) (p .1) (securon-stuck kind (a .n) (a .depth) (p .0) (a .rest .now) (p .1) (p .2) (λ h g. omega arith))
@@ -33,7 +33,7 @@ stuck-requires-3 : tie.Need-stuck-requires-3
 stuck-requires-3 c κs = search needs
 
 returns-3 : tie.Need-returns-3
-returns-3 c = 
+returns-3 c =
     let a = c .before .before .before .before .before .before .args in
     let p = c .before .before .before .before .before .before .pre in
     λ kind. head-stuck kind (a .n) (a .depth) (c .stuck3 .ensures .0) (c .stuck3 .ensures .1) (omega arith) (from-stuck kind (a .n) (a .depth) (p .0) (a .rest .now) (omega arith) (p .2) (omega arith) (λ h g. omega arith))
@@ -45,7 +45,7 @@ stuck-requires-4 : tie.Need-stuck-requires-4
 stuck-requires-4 c κs = search needs
 
 returns-4 : tie.Need-returns-4
-returns-4 c = 
+returns-4 c =
     let a = c .before .before .before .before .before .before .before .before .args in
     let p = c .before .before .before .before .before .before .before .before .pre in
     λ kind. head-stuck kind (a .n) (a .depth) (c .stuck4 .ensures .0) (c .stuck4 .ensures .1) (omega arith) (from-stuck kind (a .n) (a .depth) (p .0) (a .rest .now) (omega arith) (p .2) (omega arith) (λ h g. omega arith))
@@ -54,7 +54,7 @@ stuck-requires-5 : tie.Need-stuck-requires-5
 stuck-requires-5 c κs = search needs
 
 returns-5 : tie.Need-returns-5
-returns-5 c = 
+returns-5 c =
     let a = c .before .before .before .before .before .before .before .before .before .args in
     let p = c .before .before .before .before .before .before .before .before .before .pre in
     λ kind. head-stuck kind (a .n) (a .depth) (c .stuck5 .ensures .0) (c .stuck5 .ensures .1) (omega arith) (to-stuck kind (a .n) (a .depth) (p .0) (a .rest .now) (omega arith) (p .2) (omega arith) (omega arith) (λ h g f. omega arith))
@@ -66,7 +66,7 @@ stuck-requires-6 : tie.Need-stuck-requires-6
 stuck-requires-6 c κs = search needs
 
 returns-6 : tie.Need-returns-6
-returns-6 c = 
+returns-6 c =
     let a = c .before .before .before .before .before .before .before .before .before .before .before .args in
     let p = c .before .before .before .before .before .before .before .before .before .before .before .pre in
     λ kind. head-stuck kind (a .n) (a .depth) (c .stuck6 .ensures .0) (c .stuck6 .ensures .1) (omega arith) (to-stuck kind (a .n) (a .depth) (p .0) (a .rest .now) (omega arith) (p .2) (omega arith) (omega arith) (λ h g f. omega arith))
@@ -75,13 +75,13 @@ stuck-requires-7 : tie.Need-stuck-requires-7
 stuck-requires-7 c κs = search needs
 
 returns-7 : tie.Need-returns-7
-returns-7 c = 
+returns-7 c =
     let a = c .before .before .before .before .before .before .before .before .before .before .before .before .args in
     let p = c .before .before .before .before .before .before .before .before .before .before .before .before .pre in
     λ kind. head-stuck kind (a .n) (a .depth) (c .stuck7 .ensures .0) (c .stuck7 .ensures .1) (omega arith) (to-stuck kind (a .n) (a .depth) (p .0) (a .rest .now) (omega arith) (p .2) (omega arith) (omega arith) (λ h g f. omega arith))
 
 returns-8 : tie.Need-returns-8
-returns-8 c = 
+returns-8 c =
     let a = c .before .before .before .before .before .before .before .before .before .before .before .args in
     let p = c .before .before .before .before .before .before .before .before .before .before .before .pre in
     λ kind. head-whole kind (a .n) (a .depth) (omega arith) (omega arith) (range-whole kind (a .n) (a .depth) (a .rest .now) (omega arith) (p .2) (omega arith) (omega arith) (omega arith) (omega arith))

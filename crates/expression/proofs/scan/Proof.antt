@@ -12,7 +12,7 @@ use Rattle.expression.specs.declared.Kind.{Kind}
 use Rattle.securon.specs.Iff.{not-then-false}
 use Rattle.expression.specs.Bytes.{MayOR, Finds}
 use Rattle.expression.specs.Heads.{Head}
-use Rattle.expression.proofs.Scanning.{At, from-drop, from-length, at-start, at-operator, at-term, at-stuck, at-over, at-whole, at-short, finds-stopped}
+use Rattle.expression.proofs.Scanning.{At, from-length, at-start, at-operator, at-term, at-stuck, at-over, at-whole, at-short, finds-stopped}
 use Rattle.expression.proofs.scan.Statement.{statement}
 use Rattle.expression.proofs.scan.Tie as tie
 
@@ -37,7 +37,7 @@ loop-holds : tie.Need-loop-holds Inv-loop μ-loop
 loop-holds c = λ kind m. at-start kind _ _ _
 
 returns-2 : tie.Need-returns-2 Inv-loop μ-loop
-returns-2 c = 
+returns-2 c =
     let a = c .before .before .loop .inv (c .before .before .before .before .before .before .args .kind) (c .before .before .before .may-or .ensures) in
     (c .before .loop-test .taken, at-over _ _ _ a (c .before .before .before .before .before .before .pre) (c .if2 .taken) (c .before .loop-test .taken))
 
@@ -68,13 +68,13 @@ loop-less c = omega arith
 loop-again : tie.Need-loop-again Inv-loop μ-loop
 loop-again c = λ kind m.
     at-operator kind _ _ (c .before .before .before .before .before .before .loop .inv kind m) (omega arith) (omega arith)
-        (⊎-elim inl (λ w. inr (w .0, m .0 (w .1))) (c .before .joins .ensures .0 (c .if3 .taken)))
+    (⊎-elim inl (λ w. inr (w .0, m .0 (w .1))) (c .before .joins .ensures .0 (c .if3 .taken)))
 
 term-part-requires : tie.Need-term-part-requires Inv-loop μ-loop
 term-part-requires c κs = (c .before .before .before .before .before .before .before .before .before .before .pre, omega (arith, from-length (c .before .before .before .before .before .before .before .before .before .before .args .b .now) (c .before .before .before .before .before .before .loop .at)))
 
 add-stopped : tie.Need-add-stopped Inv-loop μ-loop
-add-stopped c = 
+add-stopped c =
     let h = c .before .before .term-part .ensures (c .before .before .before .before .before .before .before .before .before .before .before .before .before .args .kind) ((λ e. not-then-false (c .before .before .before .before .joins .ensures) (c .before .before .before .if3 .left) (inl e)), λ e may. not-then-false (c .before .before .before .before .joins .ensures) (c .before .before .before .if3 .left) (inr (e, c .before .before .before .before .before .before .before .before .before .before .may-or .ensures .1 may))) in
     let w = subst (λ (x : ℕ). c .before .before .term-part .result .good ≤ x) (from-length (c .before .before .before .before .before .before .before .before .before .before .before .before .before .args .b .now) (c .before .before .before .before .before .before .before .before .before .loop .at)) (h .within) in
     omega (arith, c .before .before .before .before .before .before .before .before .before .before .before .before .before .good)
@@ -83,29 +83,29 @@ stopped-requires : tie.Need-stopped-requires Inv-loop μ-loop
 stopped-requires c κs = search needs
 
 returns-3 : tie.Need-returns-3 Inv-loop μ-loop
-returns-3 c = 
+returns-3 c =
     let h = c .before .before .before .term-part .ensures (c .before .before .before .before .before .before .before .before .before .before .before .before .before .before .args .kind) ((λ e. not-then-false (c .before .before .before .before .before .joins .ensures) (c .before .before .before .before .if3 .left) (inl e)), λ e may. not-then-false (c .before .before .before .before .before .joins .ensures) (c .before .before .before .before .if3 .left) (inr (e, c .before .before .before .before .before .before .before .before .before .before .before .may-or .ensures .1 may))) in
-    let f = at-stuck _ _ _ (c .before .before .before .before .before .before .before .before .before .before .loop .inv (c .before .before .before .before .before .before .before .before .before .before .before .before .before .before .args .kind) (c .before .before .before .before .before .before .before .before .before .before .before .may-or .ensures)) (omega arith) (omega arith) (subst (λ (x : Bool). Head _ _ _ _ x _) (not-true _ (c .before .if4 .taken)) h) in
+    let f = at-stuck _ _ _ (c .before .before .before .before .before .before .before .before .before .before .loop .inv (c .before .before .before .before .before .before .before .before .before .before .before .before .before .before .args .kind) (c .before .before .before .before .before .before .before .before .before .before .before .may-or .ensures)) (omega arith) h (omega arith) (not-true _ (c .before .if4 .taken)) in
     finds-stopped _ _ _ f (c .stopped .ensures)
 
 sub-due : tie.Need-sub-due Inv-loop μ-loop
 sub-due c = omega arith
 
 add-at-2 : tie.Need-add-at-2 Inv-loop μ-loop
-add-at-2 c = 
+add-at-2 c =
     let h = c .before .before .term-part .ensures (c .before .before .before .before .before .before .before .before .before .before .before .before .before .args .kind) ((λ e. not-then-false (c .before .before .before .before .joins .ensures) (c .before .before .before .if3 .left) (inl e)), λ e may. not-then-false (c .before .before .before .before .joins .ensures) (c .before .before .before .if3 .left) (inr (e, c .before .before .before .before .before .before .before .before .before .before .may-or .ensures .1 may))) in
     let w = subst (λ (x : ℕ). c .before .before .term-part .result .good ≤ x) (from-length (c .before .before .before .before .before .before .before .before .before .before .before .before .before .args .b .now) (c .before .before .before .before .before .before .before .before .before .loop .at)) (h .within) in
     omega (arith, c .before .before .before .before .before .before .before .before .before .before .before .before .before .good)
 
 loop-less-2 : tie.Need-loop-less-2 Inv-loop μ-loop
-loop-less-2 c = 
+loop-less-2 c =
     let h = c .before .before .term-part .ensures (c .before .before .before .before .before .before .before .before .before .before .before .before .before .args .kind) ((λ e. not-then-false (c .before .before .before .before .joins .ensures) (c .before .before .before .if3 .left) (inl e)), λ e may. not-then-false (c .before .before .before .before .joins .ensures) (c .before .before .before .if3 .left) (inr (e, c .before .before .before .before .before .before .before .before .before .before .may-or .ensures .1 may))) in
     let w = subst (λ (x : ℕ). c .before .before .term-part .result .good ≤ x) (from-length (c .before .before .before .before .before .before .before .before .before .before .before .before .before .args .b .now) (c .before .before .before .before .before .before .before .before .before .loop .at)) (h .within) in
     omega (arith, h .some (not-false _ (c .if4 .left)))
 
 loop-again-2 : tie.Need-loop-again-2 Inv-loop μ-loop
 loop-again-2 c = λ kind m.
-    at-term kind _ _ (c .before .before .before .before .before .before .before .before .before .loop .inv kind m) (omega arith) (subst (λ (x : Bool). Head kind _ _ _ x _) (not-false _ (c .if4 .left)) (c .before .before .term-part .ensures kind ((λ e. not-then-false (c .before .before .before .before .joins .ensures) (c .before .before .before .if3 .left) (inl e)), λ e may. not-then-false (c .before .before .before .before .joins .ensures) (c .before .before .before .if3 .left) (inr (e, m .1 may)))))
+    at-term kind _ _ (c .before .before .before .before .before .before .before .before .before .loop .inv kind m) (omega arith) (c .before .before .term-part .ensures kind ((λ e. not-then-false (c .before .before .before .before .joins .ensures) (c .before .before .before .if3 .left) (inl e)), λ e may. not-then-false (c .before .before .before .before .joins .ensures) (c .before .before .before .if3 .left) (inr (e, m .1 may)))) (not-false _ (c .if4 .left))
 
 returns-4 : tie.Need-returns-4 Inv-loop μ-loop
 returns-4 c = inr (at-whole _ _ _ (c .before .before .loop .inv (c .before .before .before .before .before .before .args .kind) (c .before .before .before .may-or .ensures)) (omega arith) (c .if5 .taken))
