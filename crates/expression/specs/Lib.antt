@@ -1,4 +1,6 @@
 pub mod Expression
 pub mod Bytes
+pub mod Laws
 pub mod Scan
 pub mod Heads
+pub mod Fronts

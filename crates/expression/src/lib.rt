@@ -1,10 +1,20 @@
 // Expressions in bytes: are they in order, and what do they mean (01, "Expressions and what they mean").
 use securon::Level;
+use securon::SECURONS;
+use securon::Securon;
+use securon::SecuronSet;
+use tree::Levels;
+use tree::Tree;
+use tree::related;
 ghost use mathlib.Core.Path.{_≡_};
-ghost use mathlib.Core.Bool.{Bool, true, false};
+ghost use mathlib.Core.Bool.{Bool, true, false, _&&_, _||_};
 ghost use mathlib.Core.Logic.{_⊎_, _↔_};
 ghost use Prim.Native.Nat.{ℕ, _<_, _≤_};
 ghost use lib.ListN.{length, getD};
+ghost use Rattle.securon.specs.Sets.{_∪_, _≐_, marked};
+ghost use Rattle.tree.specs.Tree.{Related, Climbs};
+ghost use Rattle.expression.specs.Expression.{Between};
+ghost use Rattle.expression.specs.Fronts.{Ready, Front, Tests, TestsTerm};
 ghost use Rattle.expression.specs.Bytes.{MayOR, Finds, Checks};
 ghost use Rattle.expression.specs.Heads.{Head, NoOperator};
 
@@ -201,4 +211,51 @@ pub fn check(b: &[u8], kind: Kind, n: usize, depth: Level) -> Checked
         Scanned::Short => Checked::Wrong(b.len()),
         Scanned::Fault(k) => Checked::Wrong(k),
     }
+}
+
+// Whether u is in SET(s[i downto j]): its level, which is at hand, lies from i to j, and it is related to s.
+fn between(parent: &[u8; SECURONS], level: u8, s: Securon, i: Level, j: Level, u: Securon) -> bool
+    requires { ⌜ Climbs (now parent) (u .0) × Climbs (now parent) (s .0) ⌝ }
+    ensures { λ r. ⌜ (r ≡ true) ↔ ((i .0 ≤ level) × (level ≤ j .0) × Related (now (parent .entry)) (u .0) (s .0)) ⌝ }
+{
+    let low = i.0;
+    let high = j.0;
+    if level < low {
+        return false;
+    }
+    if high < level {
+        return false;
+    }
+    related(parent, u, s)
+}
+
+// Whether a member of SET(s[i downto j]) is held.
+fn meets_range(t: Tree, levels: Levels, held: SecuronSet, s: Securon, i: Level, j: Level) -> bool
+    requires { ⌜ Ready t levels × (s .0 < t .n) ⌝ }
+    ensures { λ r. ⌜ (r ≡ true) ↔ ((u : ℕ) × Between t (s .0) (i .0) (j .0) u × marked (held .has) u) ⌝ }
+{
+    let n = t.n;
+    for k in 0..n {
+        if held.has[k] {
+            if between(&t.parent, levels.of[k], s, i, j, Securon(k as u8)) {
+                return true;
+            }
+        }
+    }
+    false
+}
+
+// The set with SET(s[i downto j]) added.
+fn with_range(t: Tree, levels: Levels, set: SecuronSet, s: Securon, i: Level, j: Level) -> SecuronSet
+    requires { ⌜ Ready t levels × (s .0 < t .n) ⌝ }
+    ensures { λ r. ⌜ marked (r .has) ≐ marked (set .has) ∪ Between t (s .0) (i .0) (j .0) ⌝ }
+{
+    let n = t.n;
+    let mut r = set;
+    for k in 0..n {
+        if between(&t.parent, levels.of[k], s, i, j, Securon(k as u8)) {
+            r.has[k] = true;
+        }
+    }
+    r
 }
