@@ -2,3 +2,5 @@
 pub mod Terms
 pub mod Scanning
 pub mod Ranges
+pub mod Fronts
+pub mod Gathering

@@ -2,5 +2,6 @@ pub mod Expression
 pub mod Bytes
 pub mod Laws
 pub mod Scan
+pub mod Unique
 pub mod Heads
 pub mod Fronts

@@ -14,8 +14,9 @@ ghost use lib.ListN.{length, getD};
 ghost use Rattle.securon.specs.Sets.{_∪_, _≐_, marked};
 ghost use Rattle.tree.specs.Tree.{Related, Climbs};
 ghost use Rattle.expression.specs.Expression.{Between};
-ghost use Rattle.expression.specs.Fronts.{Ready, Front, Tests, TestsTerm};
-ghost use Rattle.expression.specs.Bytes.{MayOR, Finds, Checks};
+ghost use Rattle.expression.specs.Fronts.{Ready, Front, TermFront, Tests, TestsTerm, AddsTerm};
+ghost use Rattle.expression.specs.Bytes.{MayOR, Right, Finds, Checks, SET, MeetsT1, MeetsT2};
+ghost use Rattle.expression.specs.declared.Kind.the-variants.{Privilege, Protection};
 ghost use Rattle.expression.specs.Heads.{Head, NoOperator};
 
 // The most bytes that an expression has.
@@ -47,6 +48,12 @@ pub enum Scanned {
 pub enum Checked {
     Fine,
     Wrong(usize),
+}
+
+// What a test of the expression at the front says: whether it is met, and how many bytes it has.
+struct Met {
+    met: bool,
+    used: usize,
 }
 
 // How far a term stands: whole, and its number of bytes; or the number of bytes before the first that can't stand.
@@ -258,4 +265,119 @@ fn with_range(t: Tree, levels: Levels, set: SecuronSet, s: Securon, i: Level, j:
         }
     }
     r
+}
+
+// Whether a member of the SET of the term at the front is held.
+fn meets_term(t: Tree, levels: Levels, held: SecuronSet, rest: &[u8]) -> bool
+    requires { ⌜ Ready t levels × TermFront (t .n) (now rest) ⌝ }
+    ensures { λ r. ⌜ TestsTerm t (marked (held .has)) (now (rest .entry)) r ⌝ }
+{
+    let s = Securon(rest[1]);
+    if rest[0] == ONE {
+        return held.holds(s);
+    }
+    meets_range(t, levels, held, s, Level(rest[2]), Level(rest[3]))
+}
+
+// The set with the SET of the term at the front added.
+fn with_term(t: Tree, levels: Levels, set: SecuronSet, rest: &[u8]) -> SecuronSet
+    requires { ⌜ Ready t levels × TermFront (t .n) (now rest) ⌝ }
+    ensures { λ r. ⌜ AddsTerm t (now (rest .entry)) (marked (set .has)) (marked (r .has)) ⌝ }
+{
+    let s = Securon(rest[1]);
+    if rest[0] == ONE {
+        return set.with(s);
+    }
+    with_range(t, levels, set, s, Level(rest[2]), Level(rest[3]))
+}
+
+// How many bytes a term has, by its code.
+fn width(code: u8) -> usize
+    ensures { λ r. ⌜ (code ≡ 1 → r ≡ 2) × ((code ≡ 1 → ⊥) → r ≡ 4) ⌝ }
+{
+    if code == ONE {
+        return 2;
+    }
+    4
+}
+
+// What an operator makes of its operands' answers.
+fn joined(code: u8, left: bool, right: bool) -> bool
+    ensures { λ r. ⌜ (code ≡ 3 → r ≡ (left && right)) × ((code ≡ 3 → ⊥) → r ≡ (left || right)) ⌝ }
+{
+    if code == AND {
+        if left {
+            return right;
+        }
+        return false;
+    }
+    if left {
+        return true;
+    }
+    right
+}
+
+// Whether a held set meets the expression at the front: a call per operand, over the remaining bytes.
+fn meets_front(t: Tree, levels: Levels, held: SecuronSet, rest: &[u8]) -> Met
+    requires { ⌜ Ready t levels × Front (t .n) (now rest) ⌝ }
+    ensures { λ r. ⌜ Tests t (marked (held .has)) (now (rest .entry)) (r .met) (r .used) ⌝ }
+{
+    let code = rest[0];
+    if code < AND {
+        return Met {
+            met: meets_term(t, levels, held, rest),
+            used: width(code),
+        };
+    }
+    let left = meets_front(t, levels, held, &rest[1..]);
+    let mid = 1 + left.used;
+    let right = meets_front(t, levels, held, &rest[mid..]);
+    Met {
+        met: joined(code, left.met, right.met),
+        used: mid + right.used,
+    }
+}
+
+// SET of a privilege or of an indelible part: the union of its terms' sets, whatever joins them.
+pub fn set_of(t: Tree, levels: Levels, b: &[u8]) -> SecuronSet
+    requires { ⌜ Ready t levels × Right Privilege (t .n) (levels .depth .0) (now b) ⌝ }
+    ensures { λ r. ⌜ marked (r .has) ≐ SET t (now (b .entry)) ⌝ }
+{
+    let mut r = SecuronSet::empty();
+    let mut at = 0usize;
+    while at < b.len() {
+        let rest = &b[at..];
+        let code = rest[0];
+        if code == AND {
+            at += 1;
+        } else {
+            r = with_term(t, levels, r, rest);
+            at += width(code);
+        }
+    }
+    r
+}
+
+// Whether a held set meets T1; of length 0 it is always met.
+pub fn meets_t1(t: Tree, levels: Levels, held: SecuronSet, b: &[u8]) -> bool
+    requires { ⌜ Ready t levels × Right Protection (t .n) (levels .depth .0) (now b) ⌝ }
+    ensures { λ r. ⌜ (r ≡ true) ↔ MeetsT1 t (marked (held .has)) (now (b .entry)) ⌝ }
+{
+    if b.len() == 0 {
+        return true;
+    }
+    let front = meets_front(t, levels, held, b);
+    front.met
+}
+
+// Whether a held set meets T2; of length 0 it is never met.
+pub fn meets_t2(t: Tree, levels: Levels, held: SecuronSet, b: &[u8]) -> bool
+    requires { ⌜ Ready t levels × Right Protection (t .n) (levels .depth .0) (now b) ⌝ }
+    ensures { λ r. ⌜ (r ≡ true) ↔ MeetsT2 t (marked (held .has)) (now (b .entry)) ⌝ }
+{
+    if b.len() == 0 {
+        return false;
+    }
+    let front = meets_front(t, levels, held, b);
+    front.met
 }
