@@ -1,5 +1,6 @@
 pub mod Expression
 pub mod Bytes
+pub mod Judge
 pub mod Laws
 pub mod Scan
 pub mod Unique

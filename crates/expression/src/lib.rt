@@ -12,11 +12,12 @@ ghost use mathlib.Core.Logic.{_⊎_, _↔_};
 ghost use Prim.Native.Nat.{ℕ, _<_, _≤_};
 ghost use lib.ListN.{length, getD};
 ghost use Rattle.securon.specs.Sets.{_∪_, _≐_, marked};
-ghost use Rattle.tree.specs.Tree.{Related, Climbs};
+ghost use Rattle.tree.specs.Tree.{Related, Climbs, IsTree};
 ghost use Rattle.expression.specs.Expression.{Between};
 ghost use Rattle.expression.specs.Fronts.{Ready, Front, TermFront, Tests, TestsTerm, AddsTerm};
 ghost use Rattle.expression.specs.Bytes.{MayOR, Right, Finds, Checks, SET, MeetsT1, MeetsT2};
 ghost use Rattle.expression.specs.declared.Kind.the-variants.{Privilege, Protection};
+ghost use Rattle.expression.specs.Judge.{MeetsPart, Judges, NamesSET};
 ghost use Rattle.expression.specs.Heads.{Head, NoOperator};
 
 // The most bytes that an expression has.
@@ -50,8 +51,27 @@ pub enum Checked {
     Wrong(usize),
 }
 
+// The mutable parts of a row: they differ in what length 0 means.
+pub enum Mutable {
+    T1,
+    T2,
+}
+
+// What is said of the bytes of a protection: met, not met, or the place of their fault.
+pub enum Judged {
+    Met,
+    NotMet,
+    Faulty(usize),
+}
+
+// What is said of the bytes of a privilege: its SET where they are in order, else no securon.
+pub struct Named {
+    pub checked: Checked,
+    pub set: SecuronSet,
+}
+
 // What a test of the expression at the front says: whether it is met, and how many bytes it has.
-struct Met {
+struct Tested {
     met: bool,
     used: usize,
 }
@@ -318,13 +338,13 @@ fn joined(code: u8, left: bool, right: bool) -> bool
 }
 
 // Whether a held set meets the expression at the front: a call per operand, over the remaining bytes.
-fn meets_front(t: Tree, levels: Levels, held: SecuronSet, rest: &[u8]) -> Met
+fn meets_front(t: Tree, levels: Levels, held: SecuronSet, rest: &[u8]) -> Tested
     requires { ⌜ Ready t levels × Front (t .n) (now rest) ⌝ }
     ensures { λ r. ⌜ Tests t (marked (held .has)) (now (rest .entry)) (r .met) (r .used) ⌝ }
 {
     let code = rest[0];
     if code < AND {
-        return Met {
+        return Tested {
             met: meets_term(t, levels, held, rest),
             used: width(code),
         };
@@ -332,7 +352,7 @@ fn meets_front(t: Tree, levels: Levels, held: SecuronSet, rest: &[u8]) -> Met
     let left = meets_front(t, levels, held, &rest[1..]);
     let mid = 1 + left.used;
     let right = meets_front(t, levels, held, &rest[mid..]);
-    Met {
+    Tested {
         met: joined(code, left.met, right.met),
         used: mid + right.used,
     }
@@ -380,4 +400,52 @@ pub fn meets_t2(t: Tree, levels: Levels, held: SecuronSet, b: &[u8]) -> bool
     }
     let front = meets_front(t, levels, held, b);
     front.met
+}
+
+// Whether a held set meets a mutable part.
+fn meets_part(t: Tree, levels: Levels, part: Mutable, held: SecuronSet, b: &[u8]) -> bool
+    requires { ⌜ Ready t levels × Right Protection (t .n) (levels .depth .0) (now b) ⌝ }
+    ensures { λ r. ⌜ (r ≡ true) ↔ MeetsPart part t (marked (held .has)) (now (b .entry)) ⌝ }
+{
+    match part {
+        Mutable::T1 => meets_t1(t, levels, held, b),
+        Mutable::T2 => meets_t2(t, levels, held, b),
+    }
+}
+
+// Whether a held set meets a mutable part, for any bytes whatever.
+pub fn judge(t: Tree, part: Mutable, held: SecuronSet, b: &[u8]) -> Judged
+    requires { ⌜ IsTree t ⌝ }
+    ensures { λ r. ⌜ Judges t part (marked (held .has)) (now (b .entry)) r ⌝ }
+{
+    let levels = t.levels();
+    let checked = check(b, Kind::Protection, t.n, levels.depth);
+    match checked {
+        Checked::Wrong(k) => Judged::Faulty(k),
+        Checked::Fine => {
+            if meets_part(t, levels, part, held, b) {
+                return Judged::Met;
+            }
+            Judged::NotMet
+        }
+    }
+}
+
+// SET of a privilege, for any bytes whatever.
+pub fn name_set(t: Tree, b: &[u8]) -> Named
+    requires { ⌜ IsTree t ⌝ }
+    ensures { λ r. ⌜ NamesSET t (now (b .entry)) (r .checked) (marked (r .set .has)) ⌝ }
+{
+    let levels = t.levels();
+    let checked = check(b, Kind::Privilege, t.n, levels.depth);
+    match checked {
+        Checked::Wrong(k) => {
+            let set = SecuronSet::empty();
+            Named { checked: Checked::Wrong(k), set }
+        }
+        Checked::Fine => {
+            let set = set_of(t, levels, b);
+            Named { checked: Checked::Fine, set }
+        }
+    }
 }
