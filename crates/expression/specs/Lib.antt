@@ -6,3 +6,6 @@ pub mod Scan
 pub mod Unique
 pub mod Heads
 pub mod Fronts
+pub mod Decide
+pub mod Starred
+pub mod StarredLaws
