@@ -4,6 +4,7 @@ pub mod Judge
 pub mod Laws
 pub mod Scan
 pub mod Unique
+pub mod One
 pub mod Heads
 pub mod Fronts
 pub mod Decide
