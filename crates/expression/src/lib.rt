@@ -32,6 +32,11 @@ pub const AND: u8 = 3;
 
 pub const OR: u8 = 4;
 
+// Length 0 has its own meaning: as T1 always met, as T2 never met.
+const EMPTY_T1_MET: bool = true;
+
+const EMPTY_T2_MET: bool = false;
+
 // A privilege expression has no OR; a protection expression may have it.
 pub enum Kind {
     Privilege,
@@ -264,23 +269,33 @@ fn meets_range(t: Tree, levels: Levels, held: SecuronSet, s: Securon, i: Level, 
     let n = t.n;
     for k in 0..n {
         if held.has[k] {
-            if between(&t.parent, levels.of[k], s, i, j, Securon(k as u8)) {
+            let u = k as u8;
+            if between(&t.parent, levels.of[k], s, i, j, Securon(u)) {
                 return true;
             }
         }
     }
-    false
+    let nobody = false;
+    nobody
 }
 
 // The set with SET(s[i downto j]) added.
-fn with_range(t: Tree, levels: Levels, set: SecuronSet, s: Securon, i: Level, j: Level) -> SecuronSet
+fn with_range(
+    t: Tree,
+    levels: Levels,
+    set: SecuronSet,
+    s: Securon,
+    i: Level,
+    j: Level,
+) -> SecuronSet
     requires { ⌜ Ready t levels × (s .0 < t .n) ⌝ }
     ensures { λ r. ⌜ marked (r .has) ≐ marked (set .has) ∪ Between t (s .0) (i .0) (j .0) ⌝ }
 {
     let n = t.n;
     let mut r = set;
     for k in 0..n {
-        if between(&t.parent, levels.of[k], s, i, j, Securon(k as u8)) {
+        let u = k as u8;
+        if between(&t.parent, levels.of[k], s, i, j, Securon(u)) {
             r.has[k] = true;
         }
     }
@@ -322,10 +337,10 @@ fn width(code: u8) -> usize
 }
 
 // What an operator makes of its operands' answers.
-fn joined(code: u8, left: bool, right: bool) -> bool
-    ensures { λ r. ⌜ (code ≡ 3 → r ≡ (left && right)) × ((code ≡ 3 → ⊥) → r ≡ (left || right)) ⌝ }
+fn joined(operator: u8, left: bool, right: bool) -> bool
+    ensures { λ r. ⌜ (operator ≡ 3 → r ≡ (left && right)) × ((operator ≡ 3 → ⊥) → r ≡ (left || right)) ⌝ }
 {
-    if code == AND {
+    if operator == AND {
         if left {
             return right;
         }
@@ -384,7 +399,7 @@ pub fn meets_t1(t: Tree, levels: Levels, held: SecuronSet, b: &[u8]) -> bool
     ensures { λ r. ⌜ (r ≡ true) ↔ MeetsT1 t (marked (held .has)) (now (b .entry)) ⌝ }
 {
     if b.len() == 0 {
-        return true;
+        return EMPTY_T1_MET;
     }
     let front = meets_front(t, levels, held, b);
     front.met
@@ -396,7 +411,7 @@ pub fn meets_t2(t: Tree, levels: Levels, held: SecuronSet, b: &[u8]) -> bool
     ensures { λ r. ⌜ (r ≡ true) ↔ MeetsT2 t (marked (held .has)) (now (b .entry)) ⌝ }
 {
     if b.len() == 0 {
-        return false;
+        return EMPTY_T2_MET;
     }
     let front = meets_front(t, levels, held, b);
     front.met
@@ -441,11 +456,17 @@ pub fn name_set(t: Tree, b: &[u8]) -> Named
     match checked {
         Checked::Wrong(k) => {
             let set = SecuronSet::empty();
-            Named { checked: Checked::Wrong(k), set }
+            Named {
+                checked: Checked::Wrong(k),
+                set,
+            }
         }
         Checked::Fine => {
             let set = set_of(t, levels, b);
-            Named { checked: Checked::Fine, set }
+            Named {
+                checked: Checked::Fine,
+                set,
+            }
         }
     }
 }

@@ -125,7 +125,7 @@ meets-front-meets-front-requires : (t : ℕ) → meets-front-lts.Need-meets-fron
   joined-reads.Asked,
   joined-reads.Learnt,
 ) (meets-front-at t) meets-front.Post
-meets-front-meets-front-requires t c κs = 
+meets-front-meets-front-requires t c κs =
     let o = front-operator (c .before .before .before .before .pre .1 .1) (omega arith) in
     (omega (arith, from-length (c .before .before .before .before .args .rest .now) 1, front-some (c .before .before .before .before .pre .1 .1), c .before .before .before .before .pre .0), (c .before .before .before .before .pre .1 .0, o .left))
 
@@ -139,7 +139,7 @@ meets-front-add-mid : (t : ℕ) → meets-front-lts.Need-add-mid (
   joined-reads.Asked,
   joined-reads.Learnt,
 ) (meets-front-at t) meets-front.Post
-meets-front-add-mid t c = 
+meets-front-add-mid t c =
     let o = front-operator (c .before .before .before .before .before .before .pre .1 .1) (omega arith) in
     let q = c .before .meets-front .ensures (o .a) _ (o .left-is) .0 in
     omega (arith, o .long, c .before .before .before .before .before .before .good)
@@ -154,7 +154,7 @@ meets-front-sub-meets-front-2 : (t : ℕ) → meets-front-lts.Need-sub-meets-fro
   joined-reads.Asked,
   joined-reads.Learnt,
 ) (meets-front-at t) meets-front.Post
-meets-front-sub-meets-front-2 t c = 
+meets-front-sub-meets-front-2 t c =
     let o = front-operator (c .before .before .before .before .before .before .pre .1 .1) (omega arith) in
     let q = c .before .meets-front .ensures (o .a) _ (o .left-is) .0 in
     omega (arith, o .long)
@@ -196,7 +196,7 @@ meets-front-meets-front-requires-2 : (t : ℕ) → meets-front-lts.Need-meets-fr
   joined-reads.Asked,
   joined-reads.Learnt,
 ) (meets-front-at t) meets-front.Post
-meets-front-meets-front-requires-2 t c κs = 
+meets-front-meets-front-requires-2 t c κs =
     let o = front-operator (c .before .before .before .before .before .before .before .pre .1 .1) (omega arith) in
     let q = c .before .before .meets-front .ensures (o .a) _ (o .left-is) .0 in
     (omega (arith, from-length (c .before .before .before .before .before .before .before .args .rest .now) (1 + c .before .before .meets-front .result .used), front-some (c .before .before .before .before .before .before .before .pre .1 .1), c .before .before .before .before .before .before .before .pre .0), (c .before .before .before .before .before .before .before .pre .1 .0, subst (λ (k : ℕ). Front (c .before .before .before .before .before .before .before .args .t .n) (from (c .before .before .before .before .before .before .before .args .rest .now) (1 + k))) (sym q) (o .right)))

@@ -22,12 +22,12 @@ meets-t2-requires : tie.Need-meets-t2-requires
 meets-t2-requires c κs = search needs
 
 returns : tie.Need-returns
-returns c = 
+returns c =
     let a = c .before .before .before .before .args in
     subst (λ (p : Mutable). (c .meets-t1 .result ≡ true) ↔ MeetsPart p (a .t) (marked (a .held .has)) (a .b .now)) (sym (c .before .enum-told .given .1)) (c .meets-t1 .ensures)
 
 returns-2 : tie.Need-returns-2
-returns-2 c = 
+returns-2 c =
     let a = c .before .before .before .before .args in
     subst (λ (p : Mutable). (c .meets-t2 .result ≡ true) ↔ MeetsPart p (a .t) (marked (a .held .has)) (a .b .now)) (sym (c .before .enum-told2 .given .1)) (c .meets-t2 .ensures)
 

@@ -28,11 +28,11 @@ element-copy-out-if1 c = omega (arith, c .before .before .pre .0 .tree .count)
 element-copy-out-between : tie.Need-element-copy-out-between Inv-loop μ-loop
 element-copy-out-between c = omega (arith, c .before .before .before .before .before .before .pre .0 .tree .count)
 
-cast-t21 : tie.Need-cast-t21 Inv-loop μ-loop
-cast-t21 c = omega (arith, c .before .before .before .before .before .before .before .pre .0 .tree .count)
+cast-u : tie.Need-cast-u Inv-loop μ-loop
+cast-u c = omega (arith, c .before .before .before .before .pre .0 .tree .count)
 
 between-requires : tie.Need-between-requires Inv-loop μ-loop
-between-requires c κs = 
+between-requires c κs =
     let p = c .before .before .before .before .before .before .before .pre in
     (ready-climbs (p .0) _ (omega arith), ready-climbs (p .0) _ (p .1))
 
@@ -48,12 +48,14 @@ loop-less : tie.Need-loop-less Inv-loop μ-loop
 loop-less c = omega arith
 
 loop-again : tie.Need-loop-again Inv-loop μ-loop
-loop-again c =
-    (omega arith, below-more _ _ (c .before .before .before .loop .inv .1)
-        (⊎-elim
-        (λ w b m. not-then-false (iff-trans (w .4 .ensures) (between-iff (c .before .before .before .before .pre .0) _ _ _ _ (omega arith))) (w .5 .left) b)
-        (λ w b m. false≢true (sym (w .left) ∙ m))
-        (c .if1 .came)))
+loop-again c = (
+  omega arith,
+  below-more _ _ (c .before .before .before .loop .inv .1)
+      (⊎-elim
+      (λ w b m. not-then-false (iff-trans (w .4 .ensures) (between-iff (c .before .before .before .before .pre .0) _ _ _ _ (omega arith))) (w .5 .left) b)
+      (λ w b m. false≢true (sym (w .left) ∙ m))
+      (c .if1 .came)),
+)
 
 returns-2 : tie.Need-returns-2 Inv-loop μ-loop
 returns-2 c = ((λ e. absurd (false≢true e)), λ (u, b, m). absurd (c .before .loop .inv .1 u (omega (arith, b .present)) b m))
@@ -66,8 +68,8 @@ meets-range-spec =
     μ-loop
     loop-holds
     element-copy-out-if1
+    cast-u
     element-copy-out-between
-    cast-t21
     between-requires
     returns
     add-k

@@ -21,7 +21,7 @@ enum-told : tie.Need-enum-told
 enum-told c = search needs
 
 set-of-requires : tie.Need-set-of-requires
-set-of-requires c κs = 
+set-of-requires c κs =
     (record { tree = c .before .before .before .before .before .pre; levels = c .before .before .before .levels .ensures }, subst (Checks _ _ _ _) (c .enum-told .given .1) (c .before .before .check .ensures) .1)
 
 returns : tie.Need-returns

@@ -61,7 +61,7 @@ add-at-2 : tie.Need-add-at-2 Inv-loop μ-loop
 add-at-2 c = let g = gathered-term _ _ (c .before .before .before .before .before .before .loop .inv) (omega arith) (c .before .before .if1 .left) (c .before .with-term .result .has) (c .width .result) (c .before .with-term .ensures) (c .width .ensures) in omega (arith, g .within, c .before .before .before .before .before .before .before .before .before .good)
 
 loop-less-2 : tie.Need-loop-less-2 Inv-loop μ-loop
-loop-less-2 c = 
+loop-less-2 c =
     let g = gathered-term _ _ (c .before .before .before .before .before .before .loop .inv) (omega arith) (c .before .before .if1 .left) (c .before .with-term .result .has) (c .width .result) (c .before .with-term .ensures) (c .width .ensures) in
     let some : 0 < c .width .result = wide (c .width .ensures) in
     omega (arith, g .within)

@@ -26,11 +26,11 @@ loop-holds c = (search needs, joined-none _ _)
 element-copy-out-between : tie.Need-element-copy-out-between Inv-loop μ-loop
 element-copy-out-between c = omega (arith, c .before .before .before .before .pre .0 .tree .count)
 
-cast-t18 : tie.Need-cast-t18 Inv-loop μ-loop
-cast-t18 c = omega (arith, c .before .before .before .before .before .pre .0 .tree .count)
+cast-u : tie.Need-cast-u Inv-loop μ-loop
+cast-u c = omega (arith, c .before .before .pre .0 .tree .count)
 
 between-requires : tie.Need-between-requires Inv-loop μ-loop
-between-requires c κs = 
+between-requires c κs =
     let p = c .before .before .before .before .before .pre in
     (ready-climbs (p .0) _ (omega arith), ready-climbs (p .0) _ (p .1))
 
@@ -44,7 +44,7 @@ loop-less : tie.Need-loop-less Inv-loop μ-loop
 loop-less c = omega arith
 
 loop-again : tie.Need-loop-again Inv-loop μ-loop
-loop-again c = 
+loop-again c =
     let p = c .before .before .before .before .before .before .before .pre in
     let g : length (c .before .before .before .before .before .before .before .args .set .has) ≡ securons = search needs in
     let j = c .before .before .before .before .before .before .loop .inv .1 in
@@ -61,8 +61,8 @@ with-range-spec =
     Inv-loop
     μ-loop
     loop-holds
+    cast-u
     element-copy-out-between
-    cast-t18
     between-requires
     element-write-r
     add-k

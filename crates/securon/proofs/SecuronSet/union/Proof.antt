@@ -14,10 +14,10 @@ use Rattle.securon.proofs.SecuronSet.union.Reads as reads
 use Rattle.securon.proofs.SecuronSet.union.Lts as lts
 
 abbrev Inv-loop : tie.InvT-loop
-Inv-loop other r₀ k₀ r k = (k ≤ securons) × Joined (r₀ .has) (marked (other .has)) (r .has) k
+Inv-loop more r₀ k₀ r k = (k ≤ securons) × Joined (r₀ .has) (marked (more .has)) (r .has) k
 
 abbrev μ-loop : tie.MeasureT-loop
-μ-loop other r₀ k₀ r k = securons - k
+μ-loop more r₀ k₀ r k = securons - k
 
 -- src/lib.rt:74:9
 loop-holds : tie.Need-loop-holds Inv-loop μ-loop

@@ -6,6 +6,7 @@ use borrow.Author.Needs.{needs}
 use lib.ListN.{length}
 use Rattle.vectors.proofs.expressions.write_bytes.Statement.{statement}
 use Rattle.vectors.proofs.expressions.write_bytes.Tie as tie
+
 -- `vectors::expressions::write_bytes` ends and reads no byte past the last. Assumes nothing.
 
 abbrev Inv-loop : tie.InvT-loop
