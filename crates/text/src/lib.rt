@@ -1,0 +1,1 @@
+// Text turned into bytes (01, "In text").
