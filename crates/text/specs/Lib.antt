@@ -5,3 +5,5 @@ pub mod Numbers
 pub mod Complete
 pub mod Sound
 pub mod Place
+pub mod Kept
+pub mod Reader

@@ -96,11 +96,11 @@ blank-fresh (by-byte {u = u} {t = t} {t′ = t′} x h e) r w =
     cc
 
 -- ---- the first k bytes of s were read, and at the byte k, or at the end of s, it goes on as from the state o; nowhere where there is none
-abbrev next-of : Option State → ℕ → Option State
+abbrev pub next-of : Option State → ℕ → Option State
 next-of none x = none
 next-of (some t) x = step t x
 
-abbrev end-of : Option State → Option Expr
+abbrev pub end-of : Option State → Option Expr
 end-of none = none
 end-of (some t) = ends t
 
