@@ -2,3 +2,4 @@
 mod Shelf
 mod Laws
 mod Levels
+mod Answering

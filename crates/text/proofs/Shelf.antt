@@ -136,7 +136,6 @@ module _ (n : ℕ) (b : List ℕ) (start x : ℕ) (l : length b ≡ 48) (u : n <
     kept : Kept (n + 1) (set r start x) (v ++ (x ∷ w))
     kept = record { fits = λ _. omega (arith, is, one-more v x w); over = λ q. absurd (omega (arith, is, one-more v x w)); holds = λ _. inserted }
 
-
 module _ (g : Reading) (start x : ℕ) (l : length (g .bytes) ≡ 48) (u : g .made < 48) where
   pub insert-far : g .made < start → Inserts g start x (record { ok = g .ok; at = g .at; made = 49; bytes = g .bytes })
   insert-far h = record { beside = record { ok = refl; at = refl }; holds = λ v w f k ok. absurd (not-far (g .made) (g .bytes) start x l u h v w f (k ok)) }

@@ -7,3 +7,5 @@ pub mod Sound
 pub mod Place
 pub mod Kept
 pub mod Reader
+pub mod Turn
+pub mod Laws

@@ -156,9 +156,9 @@ module _ (x : ℕ) (u : List ℕ) (t : State) where
       by-pick (eqb (classOf x) dot) q (λ c q. to u′ q (record { v = u; x = x; number-before = h; class = eqb-true _ dot c; is = refl })) never
   on-number (upto s i) n l h q =
       by-pick (eqb (classOf x) rbra) q (λ c q. to u′ q (
-      h .ts ++ (number s ∷ sign lbra ∷ number i ∷ dots ∷ number n ∷ sign rbra ∷ []),
-      subst (λ (z : List Token). Tokens z u′) (simp append-assoc) (a-sign rbra c (h .laid)),
-      finished (h .wants) between,
+        h .ts ++ (number s ∷ sign lbra ∷ number i ∷ dots ∷ number n ∷ sign rbra ∷ []),
+        subst (λ (z : List Token). Tokens z u′) (simp append-assoc) (a-sign rbra c (h .laid)),
+        finished (h .wants) between,
       )) never
 
   on-counted : (p : Part) (n : ℕ) (l : Left) → Counted p n l u → pick (eqb (classOf x) space) (some (counted p n l)) (afterNumber p n l (classOf x)) ≡ some t → Means t u′

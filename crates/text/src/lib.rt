@@ -3,9 +3,19 @@ ghost use mathlib.Core.Path.{_≡_};
 ghost use mathlib.Core.Bool.{true, false};
 ghost use Prim.Native.Nat.{_≤_, _<_, _+_};
 ghost use lib.ListN.{length};
+ghost use mathlib.Core.List.{_++_};
+ghost use lib.ListN.{take, drop};
+ghost use Rattle.answer.specs.Answers.{Decides, Leaves};
+ghost use Rattle.text.specs.Turn.{textConditions, textGrants, textMakes};
 ghost use Rattle.text.specs.Classes.{classOf};
 ghost use Rattle.text.specs.Kept.{Moved};
 ghost use Rattle.text.specs.Reader.{classAt, standsAt, growsAt, Skipped, Digit, Counts, Good, Puts, Inserts, Signed, Dotted, Numbered, Ranged, Item, Ands, Ors, Whole};
+use answer::Answer;
+
+// The most bytes that a text has, and that it may make.
+const LONGEST_TEXT: usize = 512;
+
+const LONGEST: usize = 48;
 
 // The classes of bytes.
 const DIGIT: u8 = 0;
@@ -28,22 +38,262 @@ const DOT: u8 = 8;
 
 // The class of each of the 256 byte values; 9 is other.
 const CLASS: [u8; 256] = [
-    9, 9, 9, 9, 9, 9, 9, 9, 9, 9, 9, 9, 9, 9, 9, 9,
-    9, 9, 9, 9, 9, 9, 9, 9, 9, 9, 9, 9, 9, 9, 9, 9,
-    1, 9, 9, 9, 9, 9, 2, 9, 4, 5, 9, 9, 9, 9, 8, 9,
-    0, 0, 0, 0, 0, 0, 0, 0, 0, 0, 9, 9, 9, 9, 9, 9,
-    9, 9, 9, 9, 9, 9, 9, 9, 9, 9, 9, 9, 9, 9, 9, 9,
-    9, 9, 9, 9, 9, 9, 9, 9, 9, 9, 9, 6, 9, 7, 9, 9,
-    9, 9, 9, 9, 9, 9, 9, 9, 9, 9, 9, 9, 9, 9, 9, 9,
-    9, 9, 9, 9, 9, 9, 9, 9, 9, 9, 9, 9, 3, 9, 9, 9,
-    9, 9, 9, 9, 9, 9, 9, 9, 9, 9, 9, 9, 9, 9, 9, 9,
-    9, 9, 9, 9, 9, 9, 9, 9, 9, 9, 9, 9, 9, 9, 9, 9,
-    9, 9, 9, 9, 9, 9, 9, 9, 9, 9, 9, 9, 9, 9, 9, 9,
-    9, 9, 9, 9, 9, 9, 9, 9, 9, 9, 9, 9, 9, 9, 9, 9,
-    9, 9, 9, 9, 9, 9, 9, 9, 9, 9, 9, 9, 9, 9, 9, 9,
-    9, 9, 9, 9, 9, 9, 9, 9, 9, 9, 9, 9, 9, 9, 9, 9,
-    9, 9, 9, 9, 9, 9, 9, 9, 9, 9, 9, 9, 9, 9, 9, 9,
-    9, 9, 9, 9, 9, 9, 9, 9, 9, 9, 9, 9, 9, 9, 9, 9,
+    9,
+    9,
+    9,
+    9,
+    9,
+    9,
+    9,
+    9,
+    9,
+    9,
+    9,
+    9,
+    9,
+    9,
+    9,
+    9,
+    9,
+    9,
+    9,
+    9,
+    9,
+    9,
+    9,
+    9,
+    9,
+    9,
+    9,
+    9,
+    9,
+    9,
+    9,
+    9,
+    1,
+    9,
+    9,
+    9,
+    9,
+    9,
+    2,
+    9,
+    4,
+    5,
+    9,
+    9,
+    9,
+    9,
+    8,
+    9,
+    0,
+    0,
+    0,
+    0,
+    0,
+    0,
+    0,
+    0,
+    0,
+    0,
+    9,
+    9,
+    9,
+    9,
+    9,
+    9,
+    9,
+    9,
+    9,
+    9,
+    9,
+    9,
+    9,
+    9,
+    9,
+    9,
+    9,
+    9,
+    9,
+    9,
+    9,
+    9,
+    9,
+    9,
+    9,
+    9,
+    9,
+    9,
+    9,
+    9,
+    9,
+    9,
+    9,
+    6,
+    9,
+    7,
+    9,
+    9,
+    9,
+    9,
+    9,
+    9,
+    9,
+    9,
+    9,
+    9,
+    9,
+    9,
+    9,
+    9,
+    9,
+    9,
+    9,
+    9,
+    9,
+    9,
+    9,
+    9,
+    9,
+    9,
+    9,
+    9,
+    9,
+    9,
+    9,
+    9,
+    3,
+    9,
+    9,
+    9,
+    9,
+    9,
+    9,
+    9,
+    9,
+    9,
+    9,
+    9,
+    9,
+    9,
+    9,
+    9,
+    9,
+    9,
+    9,
+    9,
+    9,
+    9,
+    9,
+    9,
+    9,
+    9,
+    9,
+    9,
+    9,
+    9,
+    9,
+    9,
+    9,
+    9,
+    9,
+    9,
+    9,
+    9,
+    9,
+    9,
+    9,
+    9,
+    9,
+    9,
+    9,
+    9,
+    9,
+    9,
+    9,
+    9,
+    9,
+    9,
+    9,
+    9,
+    9,
+    9,
+    9,
+    9,
+    9,
+    9,
+    9,
+    9,
+    9,
+    9,
+    9,
+    9,
+    9,
+    9,
+    9,
+    9,
+    9,
+    9,
+    9,
+    9,
+    9,
+    9,
+    9,
+    9,
+    9,
+    9,
+    9,
+    9,
+    9,
+    9,
+    9,
+    9,
+    9,
+    9,
+    9,
+    9,
+    9,
+    9,
+    9,
+    9,
+    9,
+    9,
+    9,
+    9,
+    9,
+    9,
+    9,
+    9,
+    9,
+    9,
+    9,
+    9,
+    9,
+    9,
+    9,
+    9,
+    9,
+    9,
+    9,
+    9,
+    9,
+    9,
+    9,
+    9,
+    9,
+    9,
+    9,
+    9,
+    9,
+    9,
+    9,
+    9,
+    9,
+    9,
+    9,
+    9,
+    9,
+    9,
 ];
 
 // How far a text is read. ok: up to `at`, with `made` bytes made, 49 for more than 48, and the bytes kept while they fit. Not ok: at fault at `at`.
@@ -71,7 +321,11 @@ fn class(b: u8) -> u8
 fn is_class(s: &[u8], at: usize, c: u8) -> bool
     ensures { λ r. ⌜ r ≡ classAt (now (s .entry)) at c ⌝ }
 {
-    if at < s.len() { class(s[at]) == c } else { false }
+    if at < s.len() {
+        class(s[at]) == c
+    } else {
+        false
+    }
 }
 
 // Whether the text is read so far and goes on with a byte of class c.
@@ -305,4 +559,39 @@ fn read(s: &[u8]) -> Reading
         r.ok = false;
     }
     r
+}
+
+// The first n bytes of b at the front of out.
+fn fill(out: &mut [u8], b: [u8; 48], n: usize)
+    requires { ⌜ (n ≤ 48) × (48 ≤ length (now out)) ⌝ }
+    ensures { λ _. ⌜ now (out .exit) ≡ take n b ++ drop n (now (out .entry)) ⌝ }
+{
+    let mut i = 0;
+    while i < n {
+        out[i] = b[i];
+        i += 1;
+    }
+}
+
+// The bytes of a text at the front of out, and how many they are; or what is wrong with it.
+pub fn turn(text: &[u8], out: &mut [u8]) -> Answer
+    ensures { λ r. ⌜ Decides (textConditions (now (text .entry)) (length (now (out .entry)))) (textGrants (now (text .entry))) r ⌝ }
+    ensures { λ r. ⌜ Leaves r (textMakes (now (text .entry)) (now (out .entry))) (now (out .entry)) (now (out .exit)) ⌝ }
+{
+    if out.len() < LONGEST {
+        return Answer::of(answer::BUFFER_SHORT);
+    }
+    if LONGEST_TEXT < text.len() {
+        return Answer::at(answer::TEXT_WRONG, LONGEST_TEXT);
+    }
+    let g = read(text);
+    if !g.ok {
+        return Answer::at(answer::TEXT_WRONG, g.at);
+    }
+    if LONGEST < g.made {
+        return Answer::of(answer::TEXT_LONG);
+    }
+    let b = g.bytes;
+    fill(out, b, g.made);
+    Answer::at(answer::DONE, g.made)
 }
