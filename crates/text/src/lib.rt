@@ -7,294 +7,27 @@ ghost use mathlib.Core.List.{_++_};
 ghost use lib.ListN.{take, drop};
 ghost use Rattle.answer.specs.Answers.{Decides, Leaves};
 ghost use Rattle.text.specs.Turn.{textConditions, textGrants, textMakes};
-ghost use Rattle.text.specs.Classes.{classOf};
 ghost use Rattle.text.specs.Kept.{Moved};
 ghost use Rattle.text.specs.Reader.{classAt, standsAt, growsAt, Skipped, Digit, Counts, Good, Puts, Inserts, Signed, Dotted, Numbered, Ranged, Item, Ands, Ors, Whole};
+
+mod classes;
+
+use crate::classes::AMP;
+use crate::classes::BAR;
+use crate::classes::DIGIT;
+use crate::classes::DOT;
+use crate::classes::LBRA;
+use crate::classes::LPAR;
+use crate::classes::RBRA;
+use crate::classes::RPAR;
+use crate::classes::SPACE;
+use crate::classes::class;
 use answer::Answer;
 
 // The most bytes that a text has, and that it may make.
 const LONGEST_TEXT: usize = 512;
 
 const LONGEST: usize = 48;
-
-// The classes of bytes.
-const DIGIT: u8 = 0;
-
-const SPACE: u8 = 1;
-
-const AMP: u8 = 2;
-
-const BAR: u8 = 3;
-
-const LPAR: u8 = 4;
-
-const RPAR: u8 = 5;
-
-const LBRA: u8 = 6;
-
-const RBRA: u8 = 7;
-
-const DOT: u8 = 8;
-
-// The class of each of the 256 byte values; 9 is other.
-const CLASS: [u8; 256] = [
-    9,
-    9,
-    9,
-    9,
-    9,
-    9,
-    9,
-    9,
-    9,
-    9,
-    9,
-    9,
-    9,
-    9,
-    9,
-    9,
-    9,
-    9,
-    9,
-    9,
-    9,
-    9,
-    9,
-    9,
-    9,
-    9,
-    9,
-    9,
-    9,
-    9,
-    9,
-    9,
-    1,
-    9,
-    9,
-    9,
-    9,
-    9,
-    2,
-    9,
-    4,
-    5,
-    9,
-    9,
-    9,
-    9,
-    8,
-    9,
-    0,
-    0,
-    0,
-    0,
-    0,
-    0,
-    0,
-    0,
-    0,
-    0,
-    9,
-    9,
-    9,
-    9,
-    9,
-    9,
-    9,
-    9,
-    9,
-    9,
-    9,
-    9,
-    9,
-    9,
-    9,
-    9,
-    9,
-    9,
-    9,
-    9,
-    9,
-    9,
-    9,
-    9,
-    9,
-    9,
-    9,
-    9,
-    9,
-    9,
-    9,
-    9,
-    9,
-    6,
-    9,
-    7,
-    9,
-    9,
-    9,
-    9,
-    9,
-    9,
-    9,
-    9,
-    9,
-    9,
-    9,
-    9,
-    9,
-    9,
-    9,
-    9,
-    9,
-    9,
-    9,
-    9,
-    9,
-    9,
-    9,
-    9,
-    9,
-    9,
-    9,
-    9,
-    9,
-    9,
-    3,
-    9,
-    9,
-    9,
-    9,
-    9,
-    9,
-    9,
-    9,
-    9,
-    9,
-    9,
-    9,
-    9,
-    9,
-    9,
-    9,
-    9,
-    9,
-    9,
-    9,
-    9,
-    9,
-    9,
-    9,
-    9,
-    9,
-    9,
-    9,
-    9,
-    9,
-    9,
-    9,
-    9,
-    9,
-    9,
-    9,
-    9,
-    9,
-    9,
-    9,
-    9,
-    9,
-    9,
-    9,
-    9,
-    9,
-    9,
-    9,
-    9,
-    9,
-    9,
-    9,
-    9,
-    9,
-    9,
-    9,
-    9,
-    9,
-    9,
-    9,
-    9,
-    9,
-    9,
-    9,
-    9,
-    9,
-    9,
-    9,
-    9,
-    9,
-    9,
-    9,
-    9,
-    9,
-    9,
-    9,
-    9,
-    9,
-    9,
-    9,
-    9,
-    9,
-    9,
-    9,
-    9,
-    9,
-    9,
-    9,
-    9,
-    9,
-    9,
-    9,
-    9,
-    9,
-    9,
-    9,
-    9,
-    9,
-    9,
-    9,
-    9,
-    9,
-    9,
-    9,
-    9,
-    9,
-    9,
-    9,
-    9,
-    9,
-    9,
-    9,
-    9,
-    9,
-    9,
-    9,
-    9,
-    9,
-    9,
-    9,
-    9,
-    9,
-    9,
-    9,
-    9,
-    9,
-    9,
-    9,
-    9,
-    9,
-    9,
-];
 
 // How far a text is read. ok: up to `at`, with `made` bytes made, 49 for more than 48, and the bytes kept while they fit. Not ok: at fault at `at`.
 struct Reading {
@@ -308,13 +41,6 @@ struct Reading {
 struct Count {
     n: u8,
     at: usize,
-}
-
-// The class of a byte.
-fn class(b: u8) -> u8
-    ensures { λ r. ⌜ r ≡ classOf b ⌝ }
-{
-    CLASS[b as usize]
 }
 
 // Whether a byte of class c stands at the place `at`.

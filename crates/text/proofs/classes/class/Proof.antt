@@ -7,8 +7,8 @@ use native.Mathlib.Omega.{arith}
 use lib.ListN.{getD}
 use Rattle.text.specs.Classes.{classOf}
 use borrow.Author.Needs.{needs}
-use Rattle.text.proofs.class.Statement.{statement}
-use Rattle.text.proofs.class.Tie as tie
+use Rattle.text.proofs.classes.class.Statement.{statement}
+use Rattle.text.proofs.classes.class.Tie as tie
 
 -- f at i, at i + 1 and so on: n entries
 from : (ℕ → ℕ) → ℕ → ℕ → List ℕ
