@@ -8,25 +8,32 @@ use lib.Dec.{lit<, lit≤}
 use native.Mathlib.Decide.{decLt}
 use native.Mathlib.Numerals.{add-one}
 use native.Mathlib.Omega.{arith}
-use lib.ListN.{length, take, drop, getD, set, length-set, length-append, length-take}
-use lib.Seq.{take-suc, take-suc-set, take-all, take-append-le, split-at, length-take-le}
+use lib.ListN.{length, take, drop, getD, set, length-set, length-append, take-append-drop}
+use lib.Seq.{take-suc, take-suc-set, take-all, take-append-le, split-at, length-take-le, drop-set-lt, drop-drop}
 use Rattle.io.specs.Digits.{glyph, Fewest}
 use Rattle.answer.specs.declared.Answer.{Answer}
-use Rattle.lines.specs.Lines.{hexes, Line, Held, Unended, Collected, most}
+use Rattle.lines.specs.Lines.{hexes, Fills, Held, Unended, Collected, most}
 use Rattle.lines.specs.Writing.{Written, Counted, Keeps}
 use Rattle.lines.specs.declared.Part.{Part}
 
+-- lists that are the same from k on are the same from further on
+drop-more : (x y : List ℕ) (k j : ℕ) → k ≤ j → drop k x ≡ drop k y → drop j x ≡ drop j y
+drop-more x y k j h e =
+    let i : k + (j - k) ≡ j = omega arith in
+    subst (λ (z : ℕ). drop z x ≡ drop z y) i (sym (drop-drop (j - k) k x) ∙ ap (drop (j - k)) e ∙ drop-drop (j - k) k y)
+
 -- ---- what is written
 pub none-written : (d : List ℕ) (at : ℕ) → Written d at [] d at
-none-written d at = record { next = omega arith; is = sym (append-nil (take at d)); long = refl }
+none-written d at = record { next = omega arith; is = sym (append-nil (take at d)); rest = refl; long = refl }
 
 pub one-written : (d : List ℕ) (at x : ℕ) → at < length d → Written d at (x ∷ []) (set d at x) (at + 1)
-one-written d at x h = record { next = refl; is = ap (λ (n : ℕ). take n (set d at x)) (add-one at) ∙ take-suc-set d at x h; long = length-set d at x }
+one-written d at x h = record { next = refl; is = ap (λ (n : ℕ). take n (set d at x)) (add-one at) ∙ take-suc-set d at x h; rest = drop-set-lt (at + 1) d at x (omega arith); long = length-set d at x }
 
 pub then-written : {d m e : List ℕ} {at p r : ℕ} {v w : List ℕ} → Written d at v m p → Written m p w e r → Written d at (v ++ w) e r
 then-written {d} {m} {e} {at} {p} {r} {v} {w} f g = record {
   next = omega (arith, f .next, g .next, length-append v w);
   is = g .is ∙ ap (λ (z : List ℕ). z ++ w) (f .is) ∙ append-assoc (take at d) v w;
+  rest = g .rest ∙ drop-more m d p r (omega (arith, g .next)) (f .rest);
   long = g .long ∙ f .long;
 }
 
@@ -49,7 +56,7 @@ module _ (d a : List ℕ) (at i : ℕ) (h : i < length a) where
 -- ---- what is kept of a line
 module _ (n : ℕ) (kept : List ℕ) (x : ℕ) where
   pub keep-room : length kept ≡ 513 → n < 513 → Keeps n kept x (n + 1) (set kept n x)
-  keep-room l h = record { held = λ w f. go w f; long = length-set kept n x }
+  keep-room l h = record { held = λ w f. go w f; on = omega arith; rest = drop-set-lt (n + 1) kept n x (omega arith); long = length-set kept n x }
     where
       go : (w : List ℕ) → Held n kept w → Held (n + 1) (set kept n x) (w ++ (x ∷ []))
       go w f =
@@ -64,6 +71,8 @@ module _ (n : ℕ) (kept : List ℕ) (x : ℕ) where
   pub keep-full : 513 ≤ n → Keeps n kept x n kept
   keep-full h = record {
     held = λ w f. let c = f .count in let e = length-append w (x ∷ []) in record { count = omega arith; is = f .is ∙ sym (take-append-le 513 w (x ∷ []) (omega arith)) };
+    on = omega arith;
+    rest = refl;
     long = refl;
   }
 
@@ -76,11 +85,12 @@ pub record Collecting (input : List ℕ) (n : ℕ) (before : List ℕ) (i k : �
   pub within : i ≤ length input
   pub unended : Unended (take i input)
   pub held : (w : List ℕ) → Held n before w → Held k kept (w ++ take i input)
+  pub rest : drop k kept ≡ drop k before
   pub long : length kept ≡ length before
 
 module _ (input : List ℕ) (n : ℕ) (before : List ℕ) where
   pub collect-start : Collecting input n before 0 n before
-  collect-start = record { within = omega arith; unended = tt; held = λ w h. rw append-nil h; long = refl }
+  collect-start = record { within = omega arith; unended = tt; held = λ w h. rw append-nil h; rest = refl; long = refl }
 
   module _ (i k : ℕ) (kept : List ℕ) (c : Collecting input n before i k kept) where
     pub collect-more : i < length input → (getD input i 0 ≡ 10 → ⊥) → (j : ℕ) (after : List ℕ) → Keeps k kept (getD input i 0) j after → Collecting input n before (i + 1) j after
@@ -90,6 +100,7 @@ module _ (input : List ℕ) (n : ℕ) (before : List ℕ) where
           within = omega arith;
           unended = rw s (unended-more (take i input) (getD input i 0) (c .unended) e);
           held = λ w f. rw s (rw append-assoc at (q .held (w ++ take i input) (c .held w f)));
+          rest = q .rest ∙ drop-more kept before k j (q .on) (c .rest);
           long = q .long ∙ c .long;
         }
 
@@ -101,6 +112,7 @@ module _ (input : List ℕ) (n : ℕ) (before : List ℕ) where
       ended = λ _. split-at input i 0 h ∙ ap (λ (z : ℕ). take i input ++ (z ∷ drop (suc i) input)) e ∙ ap (λ (z : ℕ). take i input ++ (10 ∷ drop z input)) (sym (add-one i));
       unfinished = λ z. absurd (true≢false z);
       held = c .held;
+      rest = c .rest;
     }
 
     pub collect-all : length input ≤ i → Collected input n before (record { n = k; next = i; ended = false }) kept
@@ -113,6 +125,7 @@ module _ (input : List ℕ) (n : ℕ) (before : List ℕ) where
           ended = λ z. absurd (false≢true z);
           unfinished = λ _. (refl, omega (arith, c .within));
           held = λ w f. subst (λ (z : List ℕ). Held k kept (w ++ z)) e (c .held w f);
+          rest = c .rest;
         }
 
 -- ---- how far it is written
@@ -143,17 +156,23 @@ module _ (a : Answer) (b : List ℕ) (n f : ℕ) (l48 : length b ≡ 48) (is-f :
         go (yes h) = let e : f ≡ n = omega arith in ap (λ (z : ℕ). take z b) e
         go (no h) = take-all f b (omega arith) ∙ sym (take-all n b (omega arith))
 
-    pub whole-line : {m5 : List ℕ} {r : ℕ} → Written m4 l (10 ∷ []) m5 r → (r ≤ length m5) × Line a (take n b) (take r m5)
-    whole-line Q = (
-      omega (arith, room-end, Q .next, Q .long),
-      record {
-        number = D1 .d;
-        place = D2 .d;
-        is-number = D1 .decimal;
-        is-place = D2 .decimal;
-        is = then-written (D1 .written) (then-written P (then-written (D2 .written) (then-written H Q))) .is ∙ ap (λ (z : List ℕ). D1 .d ++ (32 ∷ (D2 .d ++ (hexes z ++ (10 ∷ []))))) same-bytes;
-      },
-    )
+    pub whole-line : {m5 : List ℕ} {r : ℕ} → Written m4 l (10 ∷ []) m5 r → Fills a (take n b) d m5 r
+    whole-line {m5} {r} Q =
+        let w = then-written (D1 .written) (then-written P (then-written (D2 .written) (then-written H Q))) in
+        let h : r ≤ length m5 = omega (arith, room-end, Q .next, Q .long) in
+        record {
+          line = take r m5;
+          is-line = record {
+            number = D1 .d;
+            place = D2 .d;
+            is-number = D1 .decimal;
+            is-place = D2 .decimal;
+            is = w .is ∙ ap (λ (z : List ℕ). D1 .d ++ (32 ∷ (D2 .d ++ (hexes z ++ (10 ∷ []))))) same-bytes;
+          };
+          count = sym (length-take-le r m5 h);
+          fits = h;
+          filled = sym (take-append-drop r m5) ∙ ap (λ (z : List ℕ). take r m5 ++ z) (w .rest);
+        }
 
 -- a number below 2 ^ 64 has at most 20 digits
 pub few-digits : (n k : ℕ) → n < 2 ^ 64 → Fewest 10 1 n k → k ≤ 20

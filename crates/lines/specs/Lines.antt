@@ -26,6 +26,14 @@ pub record Line (a : Answer) (bytes line : List ℕ) : Type 0 where
   pub is-place : Decimal (a .place) place
   pub is : line ≡ number ++ (32 ∷ (place ++ (hexes bytes ++ (10 ∷ []))))
 
+-- the line of a with these bytes fills the first r bytes of an output; the rest keeps its content
+pub record Fills (a : Answer) (bytes before after : List ℕ) (r : ℕ) : Type 0 where
+  pub line : List ℕ
+  pub is-line : Line a bytes line
+  pub count : r ≡ length line
+  pub fits : r ≤ length after
+  pub filled : after ≡ line ++ drop r before
+
 -- ---- what is kept of a line of input
 -- the most bytes of a line that are kept: one more than a text has (01, "Place for 18"), so that a longer line is known by it
 abbrev pub most : ℕ
@@ -41,7 +49,7 @@ abbrev pub Unended : List ℕ → Type 0
 Unended [] = Unit {0}
 Unended (x ∷ xs) = (x ≡ 10 → ⊥) × Unended xs
 
--- of the input, the part up to the next line end, or all of it, was added to the line
+-- of the input, the part up to the next line end, or all of it, was added to the line; what is not kept of it keeps its content
 pub record Collected (input : List ℕ) (n : ℕ) (before : List ℕ) (r : Part) (after : List ℕ) : Type 0 where
   pub part : List ℕ
   pub unended : Unended part
@@ -49,3 +57,4 @@ pub record Collected (input : List ℕ) (n : ℕ) (before : List ℕ) (r : Part)
   pub ended : r .ended ≡ true → input ≡ part ++ (10 ∷ drop (r .next) input)
   pub unfinished : r .ended ≡ false → (input ≡ part) × (r .next ≡ length input)
   pub held : (w : List ℕ) → Held n before w → Held (r .n) after (w ++ part)
+  pub rest : drop (r .n) after ≡ drop (r .n) before

@@ -2,13 +2,14 @@
 use mathlib.Core.Path.{_≡_}
 use mathlib.Core.List.{List, [], _∷_, _++_}
 use Prim.Native.Nat.{ℕ, _+_, _≤_}
-use lib.ListN.{length, take}
+use lib.ListN.{length, take, drop}
 use Rattle.lines.specs.Lines.{Decimal, Held}
 
 -- w was written at the place at, up to r
 pub record Written (before : List ℕ) (at : ℕ) (w after : List ℕ) (r : ℕ) : Type 0 where
   pub next : r ≡ at + length w
   pub is : take r after ≡ take at before ++ w
+  pub rest : drop r after ≡ drop r before
   pub long : length after ≡ length before
 
 -- n was written in decimal
@@ -21,4 +22,6 @@ pub record Counted (before : List ℕ) (at n : ℕ) (after : List ℕ) (r : ℕ)
 -- x was added to the line, or the line was full
 pub record Keeps (n : ℕ) (before : List ℕ) (x r : ℕ) (after : List ℕ) : Type 0 where
   pub held : (w : List ℕ) → Held n before w → Held r after (w ++ (x ∷ []))
+  pub on : n ≤ r
+  pub rest : drop r after ≡ drop r before
   pub long : length after ≡ length before

@@ -4,7 +4,7 @@ ghost use mathlib.Core.List.{List, _∷_, []};
 ghost use Prim.Native.Nat.{ℕ, _≤_, _<_, _+_, _*_, _/_, _%_, min};
 ghost use lib.ListN.{length, take};
 ghost use Rattle.io.specs.Digits.{glyph as Digits·glyph};
-ghost use Rattle.lines.specs.Lines.{hexes as Lines·hexes, Line, Collected};
+ghost use Rattle.lines.specs.Lines.{hexes as Lines·hexes, Fills, Collected};
 ghost use Rattle.lines.specs.Writing.{Written, Counted, Keeps};
 use answer::Answer;
 
@@ -96,7 +96,7 @@ fn fewer(n: usize) -> usize
 // The line of an answer, with the first n bytes of b: all 48 where n is more.
 pub fn print(a: Answer, b: [u8; 48], n: usize, out: &mut [u8]) -> usize
     requires { ⌜ 186 ≤ length (now out) ⌝ }
-    ensures { λ r. ⌜ (r ≤ length (now (out .exit))) × Line a (take n b) (take r (now (out .exit))) ⌝ }
+    ensures { λ r. ⌜ Fills a (take n b) (now (out .entry)) (now (out .exit)) r ⌝ }
 {
     let i = decimal(out, 0, a.number as u64);
     let j = put(out, i, b' ');

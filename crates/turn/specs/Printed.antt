@@ -1,10 +1,10 @@
 -- What the program prints for a line of its input.
 use mathlib.Core.Path.{_≡_}
 use mathlib.Core.Bool.{cond}
-use mathlib.Core.List.{List, []}
+use mathlib.Core.List.{List, [], _++_}
 use lib.Dec.{eqb}
 use Prim.Native.Nat.{ℕ, _≤_}
-use lib.ListN.{length, take}
+use lib.ListN.{length, drop}
 use Rattle.answer.specs.declared.Answer.{Answer}
 use Rattle.answer.specs.Answers.{Decides, Granted}
 use Rattle.expression.specs.Bytes.{longest}
@@ -21,10 +21,12 @@ pub record Printed (w line : List ℕ) : Type 0 where
   pub none : (Granted answer → ⊥) → bytes ≡ []
   pub line-is : Line answer bytes line
 
--- the first r bytes of out are that line, for whatever line of input is held
-pub record Prints (n : ℕ) (kept out : List ℕ) (r : ℕ) : Type 0 where
-  pub fits : r ≤ length out
-  pub prints : (w : List ℕ) → Held n kept w → Printed w (take r out)
+-- for whatever line of input is held, its printed line fills the first r bytes of an output; the rest keeps its content
+pub record Prints (n : ℕ) (kept before after : List ℕ) (r : ℕ) : Type 0 where
+  pub line : List ℕ
+  pub prints : (w : List ℕ) → Held n kept w → Printed w line
+  pub fits : r ≤ length after
+  pub filled : after ≡ line ++ drop r before
 
 -- how many bytes were made: the place of a grant, else none
 abbrev pub madeBy : Answer → ℕ

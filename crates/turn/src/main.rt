@@ -20,7 +20,7 @@ fn made(a: answer::Answer) -> usize
 // The line that is printed for the first n bytes that are kept of a line.
 fn turned(line: &[u8], n: usize, out: &mut [u8]) -> usize
     requires { ⌜ (n ≤ length (now line)) × (186 ≤ length (now out)) ⌝ }
-    ensures { λ r. ⌜ Prints n (now (line .entry)) (now (out .exit)) r ⌝ }
+    ensures { λ r. ⌜ Prints n (now (line .entry)) (now (out .entry)) (now (out .exit)) r ⌝ }
 {
     let mut bytes = [0u8; 48];
     let a = text::turn(&line[..n], &mut bytes);

@@ -1,9 +1,8 @@
 -- `collect` meets its contract: what was passed is kept, and no line end was in it. The measure is what is left of the input. Assumes nothing.
-use mathlib.Core.Path.{_≡_, _∙_}
+use mathlib.Core.Path.{_∙_}
 use Prim.Native.Nat.{_-_}
 use lib.ListN.{length}
 use native.Mathlib.Omega.{arith}
-use borrow.Author.Needs.{needs}
 use Rattle.lines.proofs.Laws.{Collecting, collect-start, collect-more, collect-ended, collect-all}
 use Rattle.lines.proofs.collect.Statement.{statement}
 use Rattle.lines.proofs.collect.Tie as tie

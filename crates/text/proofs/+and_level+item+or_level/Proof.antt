@@ -6,7 +6,6 @@ use native.Mathlib.Omega.{arith}
 use lib.ListN.{length}
 use Rattle.text.specs.Classes.{amp, bar, lpar}
 use Rattle.text.proofs.Levels.{shuts, one-number, a-range, and-last, and-more, or-last, or-more, further, onward}
-use Prim.Native.Nat.{ℕ, _<_}
 use borrow.Fn.Kinds.{In}
 use borrow.Fn.PlainCycle.{Measures, is, falls, and}
 use Rattle.text.proofs.and_level.Reads as and-level

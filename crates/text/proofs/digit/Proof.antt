@@ -1,5 +1,5 @@
 -- `digit` meets its contract: a digit's byte is one of 48 to 57. Assumes nothing.
-use mathlib.Core.Path.{sym, ap, subst}
+use mathlib.Core.Path.{sym, subst}
 use Prim.Native.Nat.{ℕ, _-_}
 use native.Mathlib.Omega.{arith}
 use Rattle.text.specs.Reader.{Digit}

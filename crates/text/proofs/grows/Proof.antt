@@ -1,6 +1,5 @@
 -- `grows` meets its contract. Assumes nothing.
 use mathlib.Core.Path.{sym, _∙_}
-use native.Mathlib.Omega.{arith}
 use Rattle.text.proofs.Laws.{grows-is, grows-zero, grows-not}
 use borrow.Author.Needs.{needs}
 use Rattle.text.proofs.grows.Statement.{statement}

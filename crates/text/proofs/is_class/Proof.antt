@@ -1,8 +1,5 @@
 -- `is_class` meets its contract: by the class of the byte, where there is one. Assumes nothing.
-use mathlib.Core.Path.{_≡_, ap, sym, _∙_}
 use borrow.Author.Tests.{lt-ltb, le-ltb}
-use lib.Dec.{eqb}
-use Prim.Native.Nat.{ℕ}
 use borrow.Author.Needs.{needs}
 use Rattle.text.proofs.is_class.Statement.{statement}
 use Rattle.text.proofs.is_class.Tie as tie

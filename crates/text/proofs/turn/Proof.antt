@@ -1,6 +1,4 @@
 -- `turn` meets its contract: each return is the answer of one condition, and only the last has touched the output. Assumes nothing.
-use mathlib.Core.Path.{_≡_}
-use native.Mathlib.Omega.{arith}
 use lib.Dec.{lit<}
 use borrow.Author.Tests.{not-true, not-false}
 use Rattle.text.proofs.Answering.{refused, short-buffer, over-long, wrong-text, too-many, turned, filled}
