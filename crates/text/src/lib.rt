@@ -196,14 +196,14 @@ fn number(s: &[u8], g: Reading) -> Reading
     requires { ⌜ (g .at) ≤ length (now s) ⌝ }
     ensures { λ r. ⌜ Numbered (now (s .entry)) g r ⌝ }
 {
-    let mut r = g;
+    let mut a = g;
     if stands(s, g, DIGIT) {
         let k = digits(s, g.at);
-        r.at = skip(s, k.at);
-        return put(r, k.n);
+        a.at = skip(s, k.at);
+        return put(a, k.n);
     }
-    r.ok = false;
-    r
+    a.ok = false;
+    a
 }
 
 // The rest of number[number..number], from its bracket on.
