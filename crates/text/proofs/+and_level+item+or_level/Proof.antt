@@ -54,407 +54,95 @@ abbrev or-level-below : ℕ → In 1 or-level-kinds.ps
 or-level-below t =
     and 1 or-level-kinds.ps (falls 1 or-level-kinds.ps _<_ μ-or-level t) or-level.Pre
 
-and-level-item-requires : (t : ℕ) → and-level-lts.Need-item-requires (
-  item-below t,
-  item.Post,
-  stands-reads.Asked,
-  stands-reads.Learnt,
-  sign-reads.Asked,
-  sign-reads.Learnt,
-  insert-reads.Asked,
-  insert-reads.Learnt,
-  and-level-below t,
-  and-level.Post,
-) (and-level-at t) and-level.Post
+abbrev and-level-claims : ℕ → and-level-lts.Claims
+and-level-claims t = (item-below t, item.Post, stands-reads.Asked, stands-reads.Learnt, sign-reads.Asked, sign-reads.Learnt, insert-reads.Asked, insert-reads.Learnt, and-level-below t, and-level.Post)
+
+abbrev item-claims : ℕ → item-lts.Claims
+item-claims t = (stands-reads.Asked, stands-reads.Learnt, sign-reads.Asked, sign-reads.Learnt, or-level-below t, or-level.Post, number-reads.Asked, number-reads.Learnt, range-reads.Asked, range-reads.Learnt, insert-reads.Asked, insert-reads.Learnt)
+
+abbrev or-level-claims : ℕ → or-level-lts.Claims
+or-level-claims t = (and-level-below t, and-level.Post, stands-reads.Asked, stands-reads.Learnt, sign-reads.Asked, sign-reads.Learnt, insert-reads.Asked, insert-reads.Learnt, or-level-below t, or-level.Post)
+
+and-level-item-requires : (t : ℕ) → and-level-lts.Need-item-requires (and-level-claims t) (and-level-at t) and-level.Post
 and-level-item-requires t c κs = (omega arith, c .before .pre .1)
 
-and-level-stands-requires : (t : ℕ) → and-level-lts.Need-stands-requires (
-  item-below t,
-  item.Post,
-  stands-reads.Asked,
-  stands-reads.Learnt,
-  sign-reads.Asked,
-  sign-reads.Learnt,
-  insert-reads.Asked,
-  insert-reads.Learnt,
-  and-level-below t,
-  and-level.Post,
-) (and-level-at t) and-level.Post
+and-level-stands-requires : (t : ℕ) → and-level-lts.Need-stands-requires (and-level-claims t) (and-level-at t) and-level.Post
 and-level-stands-requires t c κs = tt
 
-and-level-sign-requires : (t : ℕ) → and-level-lts.Need-sign-requires (
-  item-below t,
-  item.Post,
-  stands-reads.Asked,
-  stands-reads.Learnt,
-  sign-reads.Asked,
-  sign-reads.Learnt,
-  insert-reads.Asked,
-  insert-reads.Learnt,
-  and-level-below t,
-  and-level.Post,
-) (and-level-at t) and-level.Post
+and-level-sign-requires : (t : ℕ) → and-level-lts.Need-sign-requires (and-level-claims t) (and-level-at t) and-level.Post
 and-level-sign-requires t c κs = c .before .before .item .ensures .on .good .within
 
-and-level-insert-requires : (t : ℕ) → and-level-lts.Need-insert-requires (
-  item-below t,
-  item.Post,
-  stands-reads.Asked,
-  stands-reads.Learnt,
-  sign-reads.Asked,
-  sign-reads.Learnt,
-  insert-reads.Asked,
-  insert-reads.Learnt,
-  and-level-below t,
-  and-level.Post,
-) (and-level-at t) and-level.Post
+and-level-insert-requires : (t : ℕ) → and-level-lts.Need-insert-requires (and-level-claims t) (and-level-at t) and-level.Post
 and-level-insert-requires t c κs = tt
 
-and-level-and-level-requires : (t : ℕ) → and-level-lts.Need-and-level-requires (
-  item-below t,
-  item.Post,
-  stands-reads.Asked,
-  stands-reads.Learnt,
-  sign-reads.Asked,
-  sign-reads.Learnt,
-  insert-reads.Asked,
-  insert-reads.Learnt,
-  and-level-below t,
-  and-level.Post,
-) (and-level-at t) and-level.Post
-and-level-and-level-requires t c κs = let w = onward (c .before .before .before .before .before .before .args .s .now) (c .before .before .before .before .before .before .args .g) _ (c .before .before .before .before .item .ensures .on) amp _ (c .before .before .before .stands .ensures) (c .before .before .if1 .taken) _ (c .before .sign .ensures) _ (c .insert .ensures .beside) in (omega (arith, w .0, w .1 .within), w .1)
+and-level-and-level-requires : (t : ℕ) → and-level-lts.Need-and-level-requires (and-level-claims t) (and-level-at t) and-level.Post
+and-level-and-level-requires t c κs = let w = onward _ _ _ (c .before .before .before .before .item .ensures .on) amp _ (c .before .before .before .stands .ensures) (c .before .before .if1 .taken) _ (c .before .sign .ensures) _ (c .insert .ensures .beside) in (omega (arith, w .0, w .1 .within), w .1)
 
-and-level-returns : (t : ℕ) → and-level-lts.Need-returns (
-  item-below t,
-  item.Post,
-  stands-reads.Asked,
-  stands-reads.Learnt,
-  sign-reads.Asked,
-  sign-reads.Learnt,
-  insert-reads.Asked,
-  insert-reads.Learnt,
-  and-level-below t,
-  and-level.Post,
-) (and-level-at t) and-level.Post
-and-level-returns t c = and-more (c .before .before .before .before .before .before .before .args .s .now) (c .before .before .before .before .before .before .before .args .start) (c .before .before .before .before .before .before .before .args .g) _ (c .before .before .before .before .before .item .ensures) _ (c .before .before .before .before .stands .ensures) (c .before .before .before .if1 .taken) _ (c .before .before .sign .ensures) _ (c .before .insert .ensures) _ (c .and-level .ensures)
+and-level-returns : (t : ℕ) → and-level-lts.Need-returns (and-level-claims t) (and-level-at t) and-level.Post
+and-level-returns t c = and-more _ _ _ _ (c .before .before .before .before .before .item .ensures) _ (c .before .before .before .before .stands .ensures) (c .before .before .before .if1 .taken) _ (c .before .before .sign .ensures) _ (c .before .insert .ensures) _ (c .and-level .ensures)
 
-and-level-returns-2 : (t : ℕ) → and-level-lts.Need-returns-2 (
-  item-below t,
-  item.Post,
-  stands-reads.Asked,
-  stands-reads.Learnt,
-  sign-reads.Asked,
-  sign-reads.Learnt,
-  insert-reads.Asked,
-  insert-reads.Learnt,
-  and-level-below t,
-  and-level.Post,
-) (and-level-at t) and-level.Post
-and-level-returns-2 t c = and-last (c .before .before .before .before .args .s .now) (c .before .before .before .before .args .start) (c .before .before .before .before .args .g) _ (c .before .before .item .ensures) _ (c .before .stands .ensures) (c .if1 .left)
+and-level-returns-2 : (t : ℕ) → and-level-lts.Need-returns-2 (and-level-claims t) (and-level-at t) and-level.Post
+and-level-returns-2 t c = and-last _ _ _ _ (c .before .before .item .ensures) _ (c .before .stands .ensures) (c .if1 .left)
 
-item-stands-requires : (t : ℕ) → item-lts.Need-stands-requires (
-  stands-reads.Asked,
-  stands-reads.Learnt,
-  sign-reads.Asked,
-  sign-reads.Learnt,
-  or-level-below t,
-  or-level.Post,
-  number-reads.Asked,
-  number-reads.Learnt,
-  range-reads.Asked,
-  range-reads.Learnt,
-  insert-reads.Asked,
-  insert-reads.Learnt,
-) (item-at t) item.Post
+item-stands-requires : (t : ℕ) → item-lts.Need-stands-requires (item-claims t) (item-at t) item.Post
 item-stands-requires t c κs = tt
 
-item-sign-requires : (t : ℕ) → item-lts.Need-sign-requires (
-  stands-reads.Asked,
-  stands-reads.Learnt,
-  sign-reads.Asked,
-  sign-reads.Learnt,
-  or-level-below t,
-  or-level.Post,
-  number-reads.Asked,
-  number-reads.Learnt,
-  range-reads.Asked,
-  range-reads.Learnt,
-  insert-reads.Asked,
-  insert-reads.Learnt,
-) (item-at t) item.Post
+item-sign-requires : (t : ℕ) → item-lts.Need-sign-requires (item-claims t) (item-at t) item.Post
 item-sign-requires t c κs = c .before .before .before .pre .1 .within
 
-item-or-level-requires : (t : ℕ) → item-lts.Need-or-level-requires (
-  stands-reads.Asked,
-  stands-reads.Learnt,
-  sign-reads.Asked,
-  sign-reads.Learnt,
-  or-level-below t,
-  or-level.Post,
-  number-reads.Asked,
-  number-reads.Learnt,
-  range-reads.Asked,
-  range-reads.Learnt,
-  insert-reads.Asked,
-  insert-reads.Learnt,
-) (item-at t) item.Post
-item-or-level-requires t c κs = let w = further (c .before .before .before .before .args .s .now) (c .before .before .before .before .args .g) lpar _ (c .before .before .stands .ensures) (c .before .if1 .taken) _ (c .sign .ensures) in (omega (arith, w .0, w .1), c .sign .ensures .on .good)
+item-or-level-requires : (t : ℕ) → item-lts.Need-or-level-requires (item-claims t) (item-at t) item.Post
+item-or-level-requires t c κs = let w = further _ _ lpar _ (c .before .before .stands .ensures) (c .before .if1 .taken) _ (c .sign .ensures) in (omega (arith, w .0, w .1), c .sign .ensures .on .good)
 
-item-sign-requires-2 : (t : ℕ) → item-lts.Need-sign-requires-2 (
-  stands-reads.Asked,
-  stands-reads.Learnt,
-  sign-reads.Asked,
-  sign-reads.Learnt,
-  or-level-below t,
-  or-level.Post,
-  number-reads.Asked,
-  number-reads.Learnt,
-  range-reads.Asked,
-  range-reads.Learnt,
-  insert-reads.Asked,
-  insert-reads.Learnt,
-) (item-at t) item.Post
+item-sign-requires-2 : (t : ℕ) → item-lts.Need-sign-requires-2 (item-claims t) (item-at t) item.Post
 item-sign-requires-2 t c κs = c .or-level .ensures .on .good .within
 
-item-returns : (t : ℕ) → item-lts.Need-returns (
-  stands-reads.Asked,
-  stands-reads.Learnt,
-  sign-reads.Asked,
-  sign-reads.Learnt,
-  or-level-below t,
-  or-level.Post,
-  number-reads.Asked,
-  number-reads.Learnt,
-  range-reads.Asked,
-  range-reads.Learnt,
-  insert-reads.Asked,
-  insert-reads.Learnt,
-) (item-at t) item.Post
-item-returns t c = shuts (c .before .before .before .before .before .before .args .s .now) (c .before .before .before .before .before .before .args .g) (c .before .before .before .before .before .before .pre .1) _ (c .before .before .before .before .stands .ensures) (c .before .before .before .if1 .taken) _ (c .before .before .sign .ensures) _ (c .before .or-level .ensures) _ (c .sign2 .ensures)
+item-returns : (t : ℕ) → item-lts.Need-returns (item-claims t) (item-at t) item.Post
+item-returns t c = shuts _ _ (c .before .before .before .before .before .before .pre .1) _ (c .before .before .before .before .stands .ensures) (c .before .before .before .if1 .taken) _ (c .before .before .sign .ensures) _ (c .before .or-level .ensures) _ (c .sign2 .ensures)
 
-item-number-requires : (t : ℕ) → item-lts.Need-number-requires (
-  stands-reads.Asked,
-  stands-reads.Learnt,
-  sign-reads.Asked,
-  sign-reads.Learnt,
-  or-level-below t,
-  or-level.Post,
-  number-reads.Asked,
-  number-reads.Learnt,
-  range-reads.Asked,
-  range-reads.Learnt,
-  insert-reads.Asked,
-  insert-reads.Learnt,
-) (item-at t) item.Post
+item-number-requires : (t : ℕ) → item-lts.Need-number-requires (item-claims t) (item-at t) item.Post
 item-number-requires t c κs = c .before .before .before .pre .1 .within
 
-item-stands-requires-2 : (t : ℕ) → item-lts.Need-stands-requires-2 (
-  stands-reads.Asked,
-  stands-reads.Learnt,
-  sign-reads.Asked,
-  sign-reads.Learnt,
-  or-level-below t,
-  or-level.Post,
-  number-reads.Asked,
-  number-reads.Learnt,
-  range-reads.Asked,
-  range-reads.Learnt,
-  insert-reads.Asked,
-  insert-reads.Learnt,
-) (item-at t) item.Post
+item-stands-requires-2 : (t : ℕ) → item-lts.Need-stands-requires-2 (item-claims t) (item-at t) item.Post
 item-stands-requires-2 t c κs = tt
 
-item-range-requires : (t : ℕ) → item-lts.Need-range-requires (
-  stands-reads.Asked,
-  stands-reads.Learnt,
-  sign-reads.Asked,
-  sign-reads.Learnt,
-  or-level-below t,
-  or-level.Post,
-  number-reads.Asked,
-  number-reads.Learnt,
-  range-reads.Asked,
-  range-reads.Learnt,
-  insert-reads.Asked,
-  insert-reads.Learnt,
-) (item-at t) item.Post
+item-range-requires : (t : ℕ) → item-lts.Need-range-requires (item-claims t) (item-at t) item.Post
 item-range-requires t c κs = (c .before .before .number .ensures .on .good, sym (c .before .stands2 .ensures) ∙ c .if2 .taken)
 
-item-insert-requires : (t : ℕ) → item-lts.Need-insert-requires (
-  stands-reads.Asked,
-  stands-reads.Learnt,
-  sign-reads.Asked,
-  sign-reads.Learnt,
-  or-level-below t,
-  or-level.Post,
-  number-reads.Asked,
-  number-reads.Learnt,
-  range-reads.Asked,
-  range-reads.Learnt,
-  insert-reads.Asked,
-  insert-reads.Learnt,
-) (item-at t) item.Post
+item-insert-requires : (t : ℕ) → item-lts.Need-insert-requires (item-claims t) (item-at t) item.Post
 item-insert-requires t c κs = tt
 
-item-returns-2 : (t : ℕ) → item-lts.Need-returns-2 (
-  stands-reads.Asked,
-  stands-reads.Learnt,
-  sign-reads.Asked,
-  sign-reads.Learnt,
-  or-level-below t,
-  or-level.Post,
-  number-reads.Asked,
-  number-reads.Learnt,
-  range-reads.Asked,
-  range-reads.Learnt,
-  insert-reads.Asked,
-  insert-reads.Learnt,
-) (item-at t) item.Post
-item-returns-2 t c = a-range (c .before .before .before .before .before .before .before .before .args .s .now) (c .before .before .before .before .before .before .before .before .args .g) (c .before .before .before .before .before .before .before .before .pre .1) _ (c .before .before .before .before .before .before .stands .ensures) (c .before .before .before .before .before .if1 .left) _ (c .before .before .before .before .number .ensures) _ (c .before .before .before .stands2 .ensures) (c .before .before .if2 .taken) _ (c .before .range .ensures) _ (c .insert .ensures)
+item-returns-2 : (t : ℕ) → item-lts.Need-returns-2 (item-claims t) (item-at t) item.Post
+item-returns-2 t c = a-range _ _ (c .before .before .before .before .before .before .before .before .pre .1) _ (c .before .before .before .before .before .before .stands .ensures) (c .before .before .before .before .before .if1 .left) _ (c .before .before .before .before .number .ensures) _ (c .before .before .before .stands2 .ensures) (c .before .before .if2 .taken) _ (c .before .range .ensures) _ (c .insert .ensures)
 
-item-insert-requires-2 : (t : ℕ) → item-lts.Need-insert-requires-2 (
-  stands-reads.Asked,
-  stands-reads.Learnt,
-  sign-reads.Asked,
-  sign-reads.Learnt,
-  or-level-below t,
-  or-level.Post,
-  number-reads.Asked,
-  number-reads.Learnt,
-  range-reads.Asked,
-  range-reads.Learnt,
-  insert-reads.Asked,
-  insert-reads.Learnt,
-) (item-at t) item.Post
+item-insert-requires-2 : (t : ℕ) → item-lts.Need-insert-requires-2 (item-claims t) (item-at t) item.Post
 item-insert-requires-2 t c κs = tt
 
-item-returns-3 : (t : ℕ) → item-lts.Need-returns-3 (
-  stands-reads.Asked,
-  stands-reads.Learnt,
-  sign-reads.Asked,
-  sign-reads.Learnt,
-  or-level-below t,
-  or-level.Post,
-  number-reads.Asked,
-  number-reads.Learnt,
-  range-reads.Asked,
-  range-reads.Learnt,
-  insert-reads.Asked,
-  insert-reads.Learnt,
-) (item-at t) item.Post
-item-returns-3 t c = one-number (c .before .before .before .before .before .before .before .args .s .now) (c .before .before .before .before .before .before .before .args .g) (c .before .before .before .before .before .before .before .pre .1) _ (c .before .before .before .before .before .stands .ensures) (c .before .before .before .before .if1 .left) _ (c .before .before .before .number .ensures) _ (c .before .before .stands2 .ensures) (c .before .if2 .left) _ (c .insert2 .ensures)
+item-returns-3 : (t : ℕ) → item-lts.Need-returns-3 (item-claims t) (item-at t) item.Post
+item-returns-3 t c = one-number _ _ (c .before .before .before .before .before .before .before .pre .1) _ (c .before .before .before .before .before .stands .ensures) (c .before .before .before .before .if1 .left) _ (c .before .before .before .number .ensures) _ (c .before .before .stands2 .ensures) (c .before .if2 .left) _ (c .insert2 .ensures)
 
-or-level-and-level-requires : (t : ℕ) → or-level-lts.Need-and-level-requires (
-  and-level-below t,
-  and-level.Post,
-  stands-reads.Asked,
-  stands-reads.Learnt,
-  sign-reads.Asked,
-  sign-reads.Learnt,
-  insert-reads.Asked,
-  insert-reads.Learnt,
-  or-level-below t,
-  or-level.Post,
-) (or-level-at t) or-level.Post
+or-level-and-level-requires : (t : ℕ) → or-level-lts.Need-and-level-requires (or-level-claims t) (or-level-at t) or-level.Post
 or-level-and-level-requires t c κs = (omega arith, c .before .pre .1)
 
-or-level-stands-requires : (t : ℕ) → or-level-lts.Need-stands-requires (
-  and-level-below t,
-  and-level.Post,
-  stands-reads.Asked,
-  stands-reads.Learnt,
-  sign-reads.Asked,
-  sign-reads.Learnt,
-  insert-reads.Asked,
-  insert-reads.Learnt,
-  or-level-below t,
-  or-level.Post,
-) (or-level-at t) or-level.Post
+or-level-stands-requires : (t : ℕ) → or-level-lts.Need-stands-requires (or-level-claims t) (or-level-at t) or-level.Post
 or-level-stands-requires t c κs = tt
 
-or-level-sign-requires : (t : ℕ) → or-level-lts.Need-sign-requires (
-  and-level-below t,
-  and-level.Post,
-  stands-reads.Asked,
-  stands-reads.Learnt,
-  sign-reads.Asked,
-  sign-reads.Learnt,
-  insert-reads.Asked,
-  insert-reads.Learnt,
-  or-level-below t,
-  or-level.Post,
-) (or-level-at t) or-level.Post
+or-level-sign-requires : (t : ℕ) → or-level-lts.Need-sign-requires (or-level-claims t) (or-level-at t) or-level.Post
 or-level-sign-requires t c κs = c .before .before .and-level .ensures .on .good .within
 
-or-level-insert-requires : (t : ℕ) → or-level-lts.Need-insert-requires (
-  and-level-below t,
-  and-level.Post,
-  stands-reads.Asked,
-  stands-reads.Learnt,
-  sign-reads.Asked,
-  sign-reads.Learnt,
-  insert-reads.Asked,
-  insert-reads.Learnt,
-  or-level-below t,
-  or-level.Post,
-) (or-level-at t) or-level.Post
+or-level-insert-requires : (t : ℕ) → or-level-lts.Need-insert-requires (or-level-claims t) (or-level-at t) or-level.Post
 or-level-insert-requires t c κs = tt
 
-or-level-or-level-requires : (t : ℕ) → or-level-lts.Need-or-level-requires (
-  and-level-below t,
-  and-level.Post,
-  stands-reads.Asked,
-  stands-reads.Learnt,
-  sign-reads.Asked,
-  sign-reads.Learnt,
-  insert-reads.Asked,
-  insert-reads.Learnt,
-  or-level-below t,
-  or-level.Post,
-) (or-level-at t) or-level.Post
-or-level-or-level-requires t c κs = let w = onward (c .before .before .before .before .before .before .args .s .now) (c .before .before .before .before .before .before .args .g) _ (c .before .before .before .before .and-level .ensures .on) bar _ (c .before .before .before .stands .ensures) (c .before .before .if1 .taken) _ (c .before .sign .ensures) _ (c .insert .ensures .beside) in (omega (arith, w .0, w .1 .within), w .1)
+or-level-or-level-requires : (t : ℕ) → or-level-lts.Need-or-level-requires (or-level-claims t) (or-level-at t) or-level.Post
+or-level-or-level-requires t c κs = let w = onward _ _ _ (c .before .before .before .before .and-level .ensures .on) bar _ (c .before .before .before .stands .ensures) (c .before .before .if1 .taken) _ (c .before .sign .ensures) _ (c .insert .ensures .beside) in (omega (arith, w .0, w .1 .within), w .1)
 
-or-level-returns : (t : ℕ) → or-level-lts.Need-returns (
-  and-level-below t,
-  and-level.Post,
-  stands-reads.Asked,
-  stands-reads.Learnt,
-  sign-reads.Asked,
-  sign-reads.Learnt,
-  insert-reads.Asked,
-  insert-reads.Learnt,
-  or-level-below t,
-  or-level.Post,
-) (or-level-at t) or-level.Post
-or-level-returns t c = or-more (c .before .before .before .before .before .before .before .args .s .now) (c .before .before .before .before .before .before .before .args .start) (c .before .before .before .before .before .before .before .args .g) _ (c .before .before .before .before .before .and-level .ensures) _ (c .before .before .before .before .stands .ensures) (c .before .before .before .if1 .taken) _ (c .before .before .sign .ensures) _ (c .before .insert .ensures) _ (c .or-level .ensures)
+or-level-returns : (t : ℕ) → or-level-lts.Need-returns (or-level-claims t) (or-level-at t) or-level.Post
+or-level-returns t c = or-more _ _ _ _ (c .before .before .before .before .before .and-level .ensures) _ (c .before .before .before .before .stands .ensures) (c .before .before .before .if1 .taken) _ (c .before .before .sign .ensures) _ (c .before .insert .ensures) _ (c .or-level .ensures)
 
-or-level-returns-2 : (t : ℕ) → or-level-lts.Need-returns-2 (
-  and-level-below t,
-  and-level.Post,
-  stands-reads.Asked,
-  stands-reads.Learnt,
-  sign-reads.Asked,
-  sign-reads.Learnt,
-  insert-reads.Asked,
-  insert-reads.Learnt,
-  or-level-below t,
-  or-level.Post,
-) (or-level-at t) or-level.Post
-or-level-returns-2 t c = or-last (c .before .before .before .before .args .s .now) (c .before .before .before .before .args .start) (c .before .before .before .before .args .g) _ (c .before .before .and-level .ensures) _ (c .before .stands .ensures) (c .if1 .left)
+or-level-returns-2 : (t : ℕ) → or-level-lts.Need-returns-2 (or-level-claims t) (or-level-at t) or-level.Post
+or-level-returns-2 t c = or-last _ _ _ _ (c .before .before .and-level .ensures) _ (c .before .stands .ensures) (c .if1 .left)
 
 pub +and-level+item+or-level-spec : {M : Type 1} → statement M
-+and-level+item+or-level-spec = close μ-and-level μ-item μ-or-level (λ t. and-level-lts.spec (
-  item-below t,
-  item.Post,
-  stands-reads.Asked,
-  stands-reads.Learnt,
-  sign-reads.Asked,
-  sign-reads.Learnt,
-  insert-reads.Asked,
-  insert-reads.Learnt,
-  and-level-below t,
-  and-level.Post,
-)
++and-level+item+or-level-spec = close μ-and-level μ-item μ-or-level (λ t. and-level-lts.spec (and-level-claims t)
     (and-level-at t)
     and-level.Post
     (and-level-item-requires t)
@@ -464,20 +152,7 @@ pub +and-level+item+or-level-spec : {M : Type 1} → statement M
     (and-level-and-level-requires t)
     (and-level-returns t)
     (and-level-returns-2 t))
-    (λ t. item-lts.spec (
-      stands-reads.Asked,
-      stands-reads.Learnt,
-      sign-reads.Asked,
-      sign-reads.Learnt,
-      or-level-below t,
-      or-level.Post,
-      number-reads.Asked,
-      number-reads.Learnt,
-      range-reads.Asked,
-      range-reads.Learnt,
-      insert-reads.Asked,
-      insert-reads.Learnt,
-    )
+    (λ t. item-lts.spec (item-claims t)
     (item-at t)
     item.Post
     (item-stands-requires t)
@@ -492,18 +167,7 @@ pub +and-level+item+or-level-spec : {M : Type 1} → statement M
     (item-returns-2 t)
     (item-insert-requires-2 t)
     (item-returns-3 t))
-    λ t. or-level-lts.spec (
-      and-level-below t,
-      and-level.Post,
-      stands-reads.Asked,
-      stands-reads.Learnt,
-      sign-reads.Asked,
-      sign-reads.Learnt,
-      insert-reads.Asked,
-      insert-reads.Learnt,
-      or-level-below t,
-      or-level.Post,
-    )
+    λ t. or-level-lts.spec (or-level-claims t)
     (or-level-at t)
     or-level.Post
     (or-level-and-level-requires t)

@@ -8,16 +8,16 @@ skip-requires : tie.Need-skip-requires
 skip-requires c κs = search needs
 
 returns : tie.Need-returns
-returns c = read-blank (c .before .before .before .args .s .now) _ (c .before .skip .ensures) _ (c .if1 .taken)
+returns c = read-blank _ _ (c .before .skip .ensures) _ (c .if1 .taken)
 
 or-level-requires : tie.Need-or-level-requires
 or-level-requires c κs = search needs
 
 returns-2 : tie.Need-returns-2
-returns-2 c = read-left (c .before .before .before .before .before .before .args .s .now) _ (c .before .before .before .before .skip .ensures) (c .before .before .before .if1 .left) _ _ (c .before .before .or-level .ensures) (c .if2 .taken)
+returns-2 c = read-left _ _ (c .before .before .before .before .skip .ensures) (c .before .before .before .if1 .left) _ _ (c .before .before .or-level .ensures) (c .if2 .taken)
 
 returns-3 : tie.Need-returns-3
-returns-3 c = read-end (c .before .before .before .before .before .before .args .s .now) _ (c .before .before .before .before .skip .ensures) (c .before .before .before .if1 .left) _ _ (c .before .before .or-level .ensures) (c .if2 .left)
+returns-3 c = read-end _ _ (c .before .before .before .before .skip .ensures) (c .before .before .before .if1 .left) _ _ (c .before .before .or-level .ensures) (c .if2 .left)
 
 pub read-spec : {M : Type 1} → statement M
 read-spec = tie.close (tie.spec skip-requires returns or-level-requires returns-2 returns-3)
