@@ -119,7 +119,7 @@ fn keep(line: &mut [u8], n: usize, x: u8) -> usize
 
 // The input up to its next line end, or all of it, after the n bytes that are kept of a line.
 pub fn collect(line: &mut [u8], n: usize, input: &[u8]) -> Part
-    requires { ⌜ length (now line) ≡ 513 ⌝ }
+    requires { ⌜ (length (now line) ≡ 513) × (n ≤ 513) ⌝ }
     ensures { λ r. ⌜ Collected (now (input .entry)) n (now (line .entry)) r (now (line .exit)) ⌝ }
 {
     let mut k = n;

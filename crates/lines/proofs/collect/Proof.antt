@@ -32,7 +32,7 @@ shared-slice-read-keep : tie.Need-shared-slice-read-keep Inv-loop μ-loop
 shared-slice-read-keep c = c .before .before .before .before .loop-test .taken
 
 keep-requires : tie.Need-keep-requires Inv-loop μ-loop
-keep-requires c κs = c .before .before .before .before .before .loop .inv .long ∙ c .before .before .before .before .before .before .before .before .pre
+keep-requires c κs = c .before .before .before .before .before .loop .inv .long ∙ c .before .before .before .before .before .before .before .before .pre .0
 
 add-i : tie.Need-add-i Inv-loop μ-loop
 add-i c = omega arith
