@@ -1,8 +1,8 @@
 -- The laws of what is written, one part after the other, and of what is kept. Assumes nothing.
 use mathlib.Core.Path.{_≡_, refl, sym, ap, _∙_, subst}
-use mathlib.Core.Bool.{Bool, true, false, true≢false, false≢true}
+use mathlib.Core.Bool.{true, false, true≢false, false≢true}
 use mathlib.Core.List.{List, [], _∷_, _++_, append-assoc, append-nil}
-use Prim.Native.Nat.{ℕ, zero, suc, _+_, _-_, _*_, _/_, _%_, _^_, _<_, _≤_, min}
+use Prim.Native.Nat.{ℕ, suc, _+_, _-_, _*_, _/_, _%_, _^_, _<_, _≤_, min}
 use native.Mathlib.Nat.{pow-le-pow-right}
 use lib.Dec.{lit<, lit≤}
 use native.Mathlib.Decide.{decLt}
@@ -12,9 +12,8 @@ use lib.ListN.{length, take, drop, getD, set, length-set, length-append, take-ap
 use lib.Seq.{take-suc, take-suc-set, take-all, take-append-le, split-at, length-take-le, drop-set-lt, drop-drop}
 use Rattle.io.specs.Digits.{glyph, Fewest}
 use Rattle.answer.specs.declared.Answer.{Answer}
-use Rattle.lines.specs.Lines.{hexes, Fills, Held, Unended, Collected, most}
+use Rattle.lines.specs.Lines.{hexes, Fills, Held, Unended, Collected}
 use Rattle.lines.specs.Writing.{Written, Counted, Keeps}
-use Rattle.lines.specs.declared.Part.{Part}
 
 -- lists that are the same from k on are the same from further on
 drop-more : (x y : List ℕ) (k j : ℕ) → k ≤ j → drop k x ≡ drop k y → drop j x ≡ drop j y

@@ -1,8 +1,8 @@
 -- How an answer is printed as a line, and what is kept of a line of input. Definitions only.
 use mathlib.Core.Path.{_≡_}
-use mathlib.Core.Bool.{Bool, true, false}
+use mathlib.Core.Bool.{true, false}
 use mathlib.Core.List.{List, [], _∷_, _++_}
-use Prim.Native.Nat.{ℕ, _+_, _/_, _%_, _<_, _≤_, min}
+use Prim.Native.Nat.{ℕ, _/_, _%_, _≤_, min}
 use lib.ListN.{length, take, drop}
 use Rattle.io.specs.Digits.{glyph, digits, Fewest}
 use Rattle.answer.specs.declared.Answer.{Answer}

@@ -1,9 +1,9 @@
 -- The laws of one step of the reader: what stands at a place, and where the scan goes from there. Assumes nothing.
 use mathlib.Core.Path.{_≡_, refl, sym, ap, _∙_, subst}
-use mathlib.Core.Bool.{Bool, true, false, _&&_, true≢false, false≢true}
+use mathlib.Core.Bool.{Bool, true, false, _&&_}
 use mathlib.Core.Option.{Option, none, some}
-use mathlib.Core.List.{List, [], _∷_, _++_, append-assoc, append-nil}
-use Prim.Native.Nat.{ℕ, zero, suc, _+_, _-_, _*_, _<_, _≤_}
+use mathlib.Core.List.{List}
+use Prim.Native.Nat.{ℕ, _+_, _-_, _*_, _<_, _≤_}
 use native.Mathlib.Decide.{decLt}
 use native.Mathlib.Numerals.{add-one}
 use native.Mathlib.Omega.{arith}
@@ -11,15 +11,13 @@ use lib.Dec.{ltb, eqb}
 use lib.ListN.{length, getD, take}
 use lib.Seq.{take-suc}
 use borrow.Author.Tests.{ltb-true, lt-ltb, le-ltb, eqb-true, eq-eqb}
-use Rattle.expression.specs.Expression.{Expr, term, one, range}
-use Rattle.text.specs.Classes.{classOf, value, pick, digit, space, amp, bar, lpar, rpar, lbra, rbra, dot}
+use Rattle.text.specs.Classes.{classOf, value, pick, digit, space}
 use Rattle.text.specs.Numbers.{both, bounds, low}
-use Rattle.text.specs.Scan.{Left, Part, alone, from, upto, State, want, bound, digits, counted, dotted, done, grows, move, step, ends, Reached, by-byte}
+use Rattle.text.specs.Scan.{Left, Part, State, digits, counted, grows, move, step, ends, Reached, by-byte}
 use Rattle.text.specs.Complete.{Stays}
 use Rattle.text.specs.Place.{Reaches, next-of, end-of}
-use Rattle.text.specs.Reader.{classAt, standsAt, growsAt, At, Good, On, Holds, Skipped, Digit, Counts, Needs, Signed, Dotted, Numbered, Puts}
+use Rattle.text.specs.Reader.{classAt, standsAt, growsAt, Skipped, Digit, Counts, Needs}
 use Rattle.text.specs.declared.Reading.{Reading}
-use Rattle.text.specs.declared.Count.{Count}
 
 module _ (s : List ℕ) where
   -- ---- what stands at a place

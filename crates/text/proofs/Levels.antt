@@ -1,6 +1,6 @@
 -- The laws of signs, numbers, ranges, items and levels: each follows from those that it is made of. Assumes nothing.
 use mathlib.Core.Path.{_≡_, refl, sym, ap, _∙_, subst}
-use mathlib.Core.Bool.{Bool, true, false, _&&_, true≢false, false≢true}
+use mathlib.Core.Bool.{Bool, true, false, true≢false, false≢true}
 use mathlib.Core.Option.{Option, none, some}
 use mathlib.Core.List.{List, [], _∷_, _++_, append-assoc, append-nil}
 use Prim.Native.Nat.{ℕ, zero, suc, _+_, _<_, _≤_}
@@ -8,17 +8,17 @@ use native.Mathlib.Omega.{arith}
 use lib.Dec.{eqb}
 use borrow.Author.Tests.{eq-eqb}
 use lib.ListN.{length, getD}
-use Rattle.expression.specs.Expression.{Expr, term, one, range, _AND_, _OR_}
+use Rattle.expression.specs.Expression.{Expr, term, one, range}
 use Rattle.expression.specs.Bytes.{bytes}
 use Rattle.text.specs.Classes.{classOf, value, pick, digit, space, amp, bar, lpar, rpar, lbra, rbra, dot}
-use Rattle.text.specs.Text.{Tokens, end, spaced, Gives, blank, whole, Legal}
-use Rattle.text.specs.Scan.{Frame, Left, Part, alone, from, upto, State, want, bound, digits, counted, dotted, done, fresh, opened, and-to, or-to, finish, shut, anded, ored, move, step, ends, at-first}
+use Rattle.text.specs.Text.{Tokens, end, spaced, blank, whole}
+use Rattle.text.specs.Scan.{Frame, Left, Part, alone, from, upto, State, want, bound, digits, counted, dotted, done, fresh, opened, and-to, or-to, finish, shut, anded, ored, move, ends, at-first}
 use Rattle.text.specs.Place.{Reaches, said, fault}
 use Rattle.text.specs.Kept.{Kept, From}
 use Rattle.text.specs.Reader.{classAt, standsAt, At, Good, On, Holds, Beside, Puts, Inserts, Skipped, Counts, Needs, Signed, Dotted, Numbered, Ranged, Item, front, Ands, Ors, Whole}
 use Rattle.text.specs.declared.Reading.{Reading}
 use Rattle.text.specs.declared.Count.{Count}
-use Rattle.text.proofs.Laws.{class-in, class-is, class-not, stands-ok, stands-class, stands-in, stands-not, like, alike, at-like, at-stop, takes, at-sign, needs-there}
+use Rattle.text.proofs.Laws.{class-not, stands-ok, stands-class, stands-not, like, alike, at-like, at-stop, takes, at-sign, needs-there}
 
 abbrev stopped : Reading → Reading
 stopped g = record { ok = false; at = g .at; made = g .made; bytes = g .bytes }

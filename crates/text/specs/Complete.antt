@@ -1,18 +1,17 @@
 -- Every text that says an expression is scanned to it, by induction on how it is read; so a text gives one string of bytes. Assumes nothing.
-use mathlib.Core.Path.{_≡_, refl, sym, ap, _∙_, subst}
-use mathlib.Core.Bool.{Bool, true, false, _&&_}
+use mathlib.Core.Path.{_≡_, refl, sym, ap, _∙_}
 use mathlib.Core.Option.{Option, none, some}
 use mathlib.Core.List.{List, [], _∷_, _++_, append-nil, append-assoc}
-use Prim.Native.Nat.{ℕ, zero, suc, _+_, _*_, _<_}
+use Prim.Native.Nat.{ℕ, _+_, _*_, _<_}
 use native.Mathlib.Omega.{arith}
-use lib.Dec.{ltb, eqb, lit<}
-use borrow.Author.Tests.{lt-ltb, eq-eqb, ne-eqb}
-use Rattle.expression.specs.Expression.{Expr, term, one, range, _AND_, _OR_}
+use lib.Dec.{lit<}
+use borrow.Author.Tests.{ne-eqb}
+use Rattle.expression.specs.Expression.{Expr, term, one, range}
 use Rattle.expression.specs.Bytes.{bytes}
-use Rattle.text.specs.Classes.{classOf, value, pick, digit, space, amp, bar, lpar, rpar, lbra, rbra, dot}
-use Rattle.text.specs.Text.{Number, one-digit, two-digits, Token, number, sign, dots, Written, as-number, as-sign, as-dots, Tokens, end, spaced, next, Level, item, ands, ors, Reads, single, between, bracket, an-item, and, an-and, or, Says, Gives, blank, whole}
-use Rattle.text.specs.Numbers.{low, grown}
-use Rattle.text.specs.Scan.{Frame, Left, Part, alone, from, upto, State, want, bound, digits, counted, dotted, done, fresh, opened, and-to, or-to, finish, anded, ored, move, step, ends, go-on, scan}
+use Rattle.text.specs.Classes.{classOf, value, digit, space, amp, bar, lpar, rpar, lbra, rbra, dot}
+use Rattle.text.specs.Text.{one-digit, two-digits, Token, number, sign, dots, Written, as-number, as-sign, as-dots, Tokens, end, spaced, next, Level, item, ands, ors, Reads, single, between, bracket, an-item, and, an-and, or, Says, Gives, blank, whole}
+use Rattle.text.specs.Numbers.{grown}
+use Rattle.text.specs.Scan.{Frame, Left, Part, alone, from, upto, State, want, bound, digits, counted, dotted, done, fresh, opened, or-to, finish, anded, move, step, ends, go-on, scan}
 
 pub on : (t t′ : State) (x : ℕ) (r : List ℕ) → step t x ≡ some t′ → scan t (x ∷ r) ≡ scan t′ r
 unfolding scan

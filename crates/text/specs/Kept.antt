@@ -1,6 +1,6 @@
 -- The bytes that a text makes, as the reader keeps them: their number up to 49, and the bytes themselves while they fit.
 use mathlib.Core.Path.{_≡_}
-use mathlib.Core.List.{List, [], _∷_, _++_}
+use mathlib.Core.List.{List}
 use Prim.Native.Nat.{ℕ, _+_, _<_, _≤_}
 use lib.ListN.{length, take, getD}
 use Rattle.expression.specs.Bytes.{longest}

@@ -1,11 +1,11 @@
 -- The laws of a number: all that the other laws know of its rule. Assumes nothing.
-use mathlib.Core.Path.{_≡_, refl, sym, ap, _∙_}
+use mathlib.Core.Path.{_≡_, refl}
 use mathlib.Core.Bool.{Bool, true, false, _&&_, false≢true}
 use mathlib.Core.List.{List, [], _∷_, _++_}
-use Prim.Native.Nat.{ℕ, _+_, _*_, _-_, _<_, _≤_}
+use Prim.Native.Nat.{ℕ, _+_, _*_, _<_, _≤_}
 use native.Mathlib.Omega.{arith}
 use lib.Dec.{leb, ltb, eqb}
-use borrow.Author.Tests.{lt-ltb, eq-eqb, leb-true, ltb-true, eqb-true}
+use borrow.Author.Tests.{lt-ltb, leb-true, ltb-true, eqb-true}
 use Rattle.text.specs.Classes.{classOf, value, pick, digit, space, amp, bar, lpar, rpar, lbra, rbra, dot, other}
 use Rattle.text.specs.Text.{Number, one-digit, two-digits}
 use Rattle.text.specs.Scan.{grows}

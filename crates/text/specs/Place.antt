@@ -11,8 +11,8 @@ use Rattle.answer.specs.Faults.{Begins, FaultAt}
 use Rattle.expression.specs.Expression.{Expr}
 use Rattle.expression.specs.Bytes.{bytes}
 use Rattle.text.specs.Classes.{classOf, value, space}
-use Rattle.text.specs.Text.{Tokens, end, spaced, next, Says, Gives, blank, whole, Legal}
-use Rattle.text.specs.Scan.{Frame, Left, Part, alone, from, upto, State, want, bound, digits, counted, dotted, done, fresh, or-to, move, step, ends, go-on, scan, Reached, at-first, by-byte}
+use Rattle.text.specs.Text.{Tokens, end, spaced, Says, Gives, blank, whole, Legal}
+use Rattle.text.specs.Scan.{Frame, Left, Part, alone, from, upto, State, want, bound, digits, counted, dotted, done, fresh, move, step, ends, go-on, scan, Reached, at-first, by-byte}
 use Rattle.text.specs.Complete.{on, complete}
 use Rattle.text.specs.Sound.{sound}
 

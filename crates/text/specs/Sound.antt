@@ -1,17 +1,17 @@
 -- What the scan has read at each state is the beginning of a text, read by the grammar; so what it takes to the end is legal. Assumes nothing.
-use mathlib.Core.Path.{_≡_, refl, sym, ap, _∙_, subst}
-use mathlib.Core.Bool.{Bool, true, false, _&&_}
+use mathlib.Core.Path.{_≡_, refl, subst}
+use mathlib.Core.Bool.{Bool, true, false}
 use mathlib.Core.Option.{Option, none, some}
 use mathlib.Core.List.{List, [], _∷_, _++_, append-assoc, append-nil}
-use Prim.Native.Nat.{ℕ, _+_, _*_}
+use Prim.Native.Nat.{ℕ}
 use native.Mathlib.Omega.{arith}
 use lib.Dec.{eqb}
 use borrow.Author.Tests.{eqb-true}
-use Rattle.expression.specs.Expression.{Expr, term, one, range, _AND_, _OR_}
+use Rattle.expression.specs.Expression.{Expr, term, one}
 use Rattle.text.specs.Classes.{classOf, value, pick, digit, space, amp, bar, lpar, rpar, lbra, rbra, dot}
 use Rattle.text.specs.Text.{Number, one-digit, Token, number, sign, dots, Written, as-number, as-sign, as-dots, Tokens, end, spaced, next, Level, item, ands, ors, Reads, single, between, bracket, an-item, and, an-and, or, Says}
 use Rattle.text.specs.Numbers.{longer}
-use Rattle.text.specs.Scan.{Frame, Left, Part, alone, from, upto, State, want, bound, digits, counted, dotted, done, fresh, opened, and-to, or-to, finish, shut, anded, ored, afterItem, afterNumber, grows, move, step, itemEnd, numberEnd, ends, Reached, at-first, by-byte}
+use Rattle.text.specs.Scan.{Frame, Left, Part, alone, from, upto, State, want, bound, digits, counted, dotted, done, fresh, and-to, or-to, shut, anded, ored, afterItem, afterNumber, grows, move, step, itemEnd, numberEnd, ends, Reached, at-first, by-byte}
 
 -- ---- one space more, one token more
 space-more : {ts : List Token} {u : List ℕ} (x : ℕ) → classOf x ≡ space → Tokens ts u → Tokens ts (u ++ (x ∷ []))

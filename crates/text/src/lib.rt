@@ -2,9 +2,8 @@
 ghost use mathlib.Core.Path.{_≡_};
 ghost use mathlib.Core.Bool.{true, false};
 ghost use Prim.Native.Nat.{_≤_, _<_, _+_};
-ghost use lib.ListN.{length};
 ghost use mathlib.Core.List.{_++_};
-ghost use lib.ListN.{take, drop};
+ghost use lib.ListN.{length, take, drop};
 ghost use Rattle.answer.specs.Answers.{Decides, Leaves};
 ghost use Rattle.text.specs.Turn.{textConditions, textGrants, textMakes};
 ghost use Rattle.text.specs.Kept.{Moved};

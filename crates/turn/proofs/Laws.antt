@@ -1,10 +1,9 @@
 -- The laws of a printed line: what was kept of a line of input has the line's answer and bytes. Assumes nothing.
 use mathlib.Core.Path.{_≡_, refl, sym, ap, _∙_, subst}
 use mathlib.Core.Bool.{Bool, true, false, cond}
-use mathlib.Core.List.{List, [], _∷_, _++_}
-use Prim.Native.Nat.{ℕ, _+_, _-_, _<_, _≤_, min}
+use mathlib.Core.List.{List, _∷_, _++_}
+use Prim.Native.Nat.{ℕ, _+_, _-_, _<_, _≤_}
 use native.Mathlib.Omega.{arith}
-use lib.Dec.{eqb}
 use lib.ListN.{length, take, drop, length-take, length-append, length-drop}
 use lib.Seq.{take-all, take-append-seam, length-take-le}
 use borrow.Author.Tests.{eq-eqb, ne-eqb}
@@ -17,7 +16,7 @@ use Rattle.text.specs.Complete.{one-reading}
 use Rattle.text.specs.Laws.{first-bytes-decide, granted-right}
 use Rattle.lines.specs.Lines.{Fills, Held, Collected}
 use Rattle.lines.specs.declared.Part.{Part}
-use Rattle.turn.specs.Printed.{Printed, Prints, madeBy}
+use Rattle.turn.specs.Printed.{Prints, madeBy}
 
 module _ (n : ℕ) (kept before bytes : List ℕ) (a : Answer) (D : Decides (textConditions (take n kept) longest) (textGrants (take n kept)) a) (L : Leaves a (textMakes (take n kept) before) before bytes) where
   -- a text that is granted is not cut

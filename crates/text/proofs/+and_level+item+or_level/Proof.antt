@@ -1,7 +1,7 @@
 -- The proof of the cycle of calls {and_level, item, or_level}. The measure is three times what is left of the text, and the level's rank: remaining text and level together fall.
 -- Assumes nothing.
 use mathlib.Core.Path.{sym, _∙_}
-use Prim.Native.Nat.{ℕ, _<_, _+_, _-_, _*_}
+use Prim.Native.Nat.{ℕ, _+_, _-_, _*_, _<_}
 use native.Mathlib.Omega.{arith}
 use lib.ListN.{length}
 use Rattle.text.specs.Classes.{amp, bar, lpar}
