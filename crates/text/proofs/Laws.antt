@@ -13,7 +13,7 @@ use lib.Seq.{take-suc}
 use borrow.Author.Tests.{ltb-true, lt-ltb, le-ltb, eqb-true, eq-eqb}
 use Rattle.text.specs.Classes.{classOf, value, pick, digit, space}
 use Rattle.text.specs.Numbers.{both, bounds, low}
-use Rattle.text.specs.Scan.{Left, Part, State, digits, counted, grows, move, step, ends, Reached, by-byte}
+use Rattle.text.specs.Scan.{Left, Part, State, digits, counted, below, grows, move, step, ends, Reached, by-byte}
 use Rattle.text.specs.Complete.{Stays}
 use Rattle.text.specs.Place.{Reaches, next-of, end-of}
 use Rattle.text.specs.Reader.{classAt, standsAt, growsAt, Skipped, Digit, Counts, Needs}
@@ -127,7 +127,7 @@ module _ (s : List ℕ) where
     pub record Counting (n p : ℕ) : Type 0 where
       pub on : at < p
       pub within : p ≤ length s
-      pub small : n < 100
+      pub small : n < below
       pub moves : (t : State) (q : Part) (l : Left) → step t (getD s at 0) ≡ some (digits q (value (getD s at 0)) l) → Reaches s at (some t) → Reaches s p (some (digits q n l))
 
     pub count-first : classAt s at digit ≡ true → (d : ℕ) → Digit s at d → Counting d (at + 1)
@@ -143,14 +143,14 @@ module _ (s : List ℕ) where
       grow-in y = let w = both (ltb p (length s)) (grows n (classOf (getD s p 0)) (value (getD s p 0))) (sym e ∙ y) in (ltb-true _ _ (w .0), w .1)
 
       pub grow-digit : b ≡ true → classAt s p digit ≡ true
-      grow-digit y = let w = grow-in y in rw (lt-ltb p (length s) (w .0)) (both (eqb (classOf (getD s p 0)) digit) (ltb 0 n && ltb (10 * n + value (getD s p 0)) 100) (w .1) .0)
+      grow-digit y = let w = grow-in y in rw (lt-ltb p (length s) (w .0)) (both (eqb (classOf (getD s p 0)) digit) (ltb 0 n && ltb (10 * n + value (getD s p 0)) below) (w .1) .0)
 
       pub count-more : b ≡ true → (d : ℕ) → Digit s p d → Counting (10 * n + d) (p + 1)
       count-more y d v =
           let w = grow-in y in
           let h : p < length s = w .0 in
-          let g = both (eqb (classOf (getD s p 0)) digit) (ltb 0 n && ltb (10 * n + value (getD s p 0)) 100) (w .1) .1 in
-          let m : 10 * n + value (getD s p 0) < 100 = ltb-true _ _ (both (ltb 0 n) (ltb (10 * n + value (getD s p 0)) 100) g .1) in
+          let g = both (eqb (classOf (getD s p 0)) digit) (ltb 0 n && ltb (10 * n + value (getD s p 0)) below) (w .1) .1 in
+          let m : 10 * n + value (getD s p 0) < below = ltb-true _ _ (both (ltb 0 n) (ltb (10 * n + value (getD s p 0)) below) g .1) in
           record {
             on = omega (arith, k .on);
             within = omega arith;
@@ -170,8 +170,8 @@ module _ (s : List ℕ) where
 
   -- ---- the test of a longer number
   module _ (p n : ℕ) where
-    pub grows-is : classAt s p digit ≡ true → 0 < n → (d : ℕ) → Digit s p d → ltb (10 * n + d) 100 ≡ growsAt s p n
-    grows-is e h d v = rw (lt-ltb p (length s) (class-in p digit e), class-is p digit e, lt-ltb 0 n h) (ap (λ (z : ℕ). ltb (10 * n + z) 100) (v .is))
+    pub grows-is : classAt s p digit ≡ true → 0 < n → (d : ℕ) → Digit s p d → ltb (10 * n + d) below ≡ growsAt s p n
+    grows-is e h d v = rw (lt-ltb p (length s) (class-in p digit e), class-is p digit e, lt-ltb 0 n h) (ap (λ (z : ℕ). ltb (10 * n + z) below) (v .is))
 
     pub grows-zero : n ≤ 0 → false ≡ growsAt s p n
     grows-zero h = rw (le-ltb 0 n h) (sym (no-no (ltb p (length s)) (eqb (classOf (getD s p 0)) digit)))
@@ -182,7 +182,7 @@ module _ (s : List ℕ) where
         no-no false b = refl
 
     pub grows-not : classAt s p digit ≡ false → false ≡ growsAt s p n
-    grows-not e = sym (go (ltb p (length s)) (eqb (classOf (getD s p 0)) digit) (ltb 0 n && ltb (10 * n + value (getD s p 0)) 100) e)
+    grows-not e = sym (go (ltb p (length s)) (eqb (classOf (getD s p 0)) digit) (ltb 0 n && ltb (10 * n + value (getD s p 0)) below) e)
       where
         go : (a b d : Bool) → (a && b) ≡ false → (a && (b && d)) ≡ false
         go true b d e = ap (λ (z : Bool). z && d) e

@@ -10,7 +10,7 @@ use Rattle.expression.specs.Expression.{Expr, term, one, range}
 use Rattle.expression.specs.Bytes.{bytes}
 use Rattle.text.specs.Classes.{classOf, value, digit, space, amp, bar, lpar, rpar, lbra, rbra, dot}
 use Rattle.text.specs.Text.{one-digit, two-digits, Token, number, sign, dots, Written, as-number, as-sign, as-dots, Tokens, end, spaced, next, Level, item, ands, ors, Reads, single, between, bracket, an-item, and, an-and, or, Says, Gives, blank, whole}
-use Rattle.text.specs.Numbers.{grown}
+use Rattle.text.specs.Numbers.{Built, starts, more, built}
 use Rattle.text.specs.Scan.{Frame, Left, Part, alone, from, upto, State, want, bound, digits, counted, dotted, done, fresh, opened, or-to, finish, anded, move, step, ends, go-on, scan}
 
 pub on : (t t′ : State) (x : ℕ) (r : List ℕ) → step t x ≡ some t′ → scan t (x ∷ r) ≡ scan t′ r
@@ -100,11 +100,14 @@ two-dots a b l h = let (u, s′, w, hs, q) = first (counted (from a) b l) (λ d.
 
 -- a number, from a state t that takes a digit to the part p
 a-number : (p : Part) (l : Left) (t : State) → Stays t → ((d : ℕ) → move t digit d ≡ some (digits p d l)) → (n : ℕ) {us : List Token} {s : List ℕ} → Tokens (number n ∷ us) s → Apart us → Goes t s (counted p n l) us
-a-number p l t e f n h a = let (u, s′, w, hs, q) = first t e h in goes s′ hs (q ∙ at s′ w ∙ settles hs a p n l)
+a-number p l t e f n h a = let (u, s′, w, hs, q) = first t e h in goes s′ hs (q ∙ written s′ w ∙ settles hs a p n l)
   where
-    at : {m : ℕ} {u : List ℕ} (s′ : List ℕ) → Written (number m) u → scan t (u ++ s′) ≡ scan (digits p m l) s′
-    at s′ (as-number (one-digit {x = x} h)) = by-class t _ x digit s′ h (f _)
-    at s′ (as-number (two-digits {x = x} {y = y} h k j)) = by-class t _ x digit (y ∷ s′) h (f _) ∙ by-class (digits p (value x) l) (digits p (10 * value x + value y) l) y digit s′ j (unfold move in rw (grown x y h k j))
+    at : {m : ℕ} {u : List ℕ} (s′ : List ℕ) → Built m u → scan t (u ++ s′) ≡ scan (digits p m l) s′
+    at s′ (starts x h) = by-class t _ x digit s′ h (f _)
+    at s′ (more {n = m} {u = u} b x g) = ap (scan t) (append-assoc u (x ∷ []) s′) ∙ at (x ∷ s′) b ∙ on (digits p m l) (digits p (10 * m + value x) l) x s′ (unfold move in rw g)
+
+    written : {m : ℕ} {u : List ℕ} (s′ : List ℕ) → Written (number m) u → scan t (u ++ s′) ≡ scan (digits p m l) s′
+    written s′ (as-number k) = at s′ (built k)
 
 a-range : (a b c : ℕ) (l : Left) {us : List Token} {s : List ℕ} → Tokens (number a ∷ sign lbra ∷ number b ∷ dots ∷ number c ∷ sign rbra ∷ us) s → Goes (want l) s (finish l (term (range a b c))) us
 unfolding move

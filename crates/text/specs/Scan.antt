@@ -72,9 +72,13 @@ afterNumber alone n l c = pick (eqb c lbra) (some (bound (from n) l)) (afterItem
 afterNumber (from s) n l c = pick (eqb c dot) (some (dotted s n l)) none
 afterNumber (upto s i) n l c = pick (eqb c rbra) (some (finish l (term (range s i n)))) none
 
--- after the number n a digit d may follow: no leading zero, at most two digits
+-- all numbers are below it: they have one or two digits
+abbrev pub below : ℕ
+below = 100
+
+-- after the number n a byte of class c, a digit that counts d, makes a longer one: no leading zero, and not too many digits
 abbrev pub grows : ℕ → ℕ → ℕ → Bool
-grows n c d = eqb c digit && (ltb 0 n && ltb (10 * n + d) 100)
+grows n c d = eqb c digit && (ltb 0 n && ltb (10 * n + d) below)
 
 unfoldable pub move : State → ℕ → ℕ → Option State
 move (want l) c d = pick (eqb c space) (some (want l)) (pick (eqb c lpar) (some (want (opened l))) (pick (eqb c digit) (some (digits alone d l)) none))

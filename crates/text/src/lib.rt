@@ -28,6 +28,9 @@ const LONGEST_TEXT: usize = 512;
 
 const LONGEST: usize = 48;
 
+// All numbers are below it: they have one or two digits.
+const BELOW: usize = 100;
+
 // How far a text is read. ok: up to `at`, with `made` bytes made, 49 for more than 48, and the bytes kept while they fit. Not ok: at fault at `at`.
 struct Reading {
     ok: bool,
@@ -93,7 +96,7 @@ fn grows(s: &[u8], at: usize, n: usize) -> bool
 {
     if is_class(s, at, DIGIT) {
         if 0 < n {
-            return 10 * n + digit(s, at) < 100;
+            return 10 * n + digit(s, at) < BELOW;
         }
     }
     false
