@@ -1,7 +1,20 @@
 // The state: the tree, roles, files and slots; the fresh state; is a state well formed; stores (01, "Rows, roles and the test", "Requests").
+use expression::Checked;
+use expression::Kind;
 use expression::LONGEST;
+use securon::Level;
+use securon::SECURONS;
 use tree::Levels;
 use tree::Tree;
+ghost use mathlib.Core.Path.{_≡_};
+ghost use mathlib.Core.Bool.{Bool, true, false};
+ghost use mathlib.Core.Logic.{_↔_};
+ghost use Prim.Native.Nat.{ℕ, _+_, _*_, _<_, _≤_};
+ghost use lib.ListN.{length, getD};
+ghost use Rattle.policy.specs.State.{freshState};
+ghost use Rattle.expression.specs.Bytes.{longest, InOrder};
+ghost use Rattle.policy.specs.WellFormed.{AllZero};
+ghost use Rattle.policy.specs.Fine.{kindAt, PlaceFine, ShelfFine, ShelfIs, RoleIs, FileIs};
 
 // The most roles and the most files; the slots.
 pub const ROLES: usize = 32;
@@ -89,4 +102,139 @@ pub struct State {
 pub struct Examined {
     pub ok: bool,
     pub levels: Levels,
+}
+
+// Whether every byte is zero. A flag and no early return, so that the loop can be vectorised.
+fn all_zero(s: &[u8]) -> bool
+    ensures { λ r. ⌜ (r ≡ true) ↔ AllZero (now (s .entry)) ⌝ }
+{
+    let mut zero = true;
+    for i in 0..s.len() {
+        zero = zero & (s[i] == 0);
+    }
+    zero
+}
+
+fn wide(x: u8) -> usize
+    ensures { λ r. ⌜ r ≡ x ⌝ }
+{
+    x as usize
+}
+
+// The kind of the expression at place k: T1 and T2 of a file are protection expressions, all others privilege expressions.
+fn kind_at(file: bool, k: usize) -> Kind
+    ensures { λ r. ⌜ r ≡ kindAt file k ⌝ }
+{
+    if file & (k % 2 == 0) {
+        return Kind::Protection;
+    }
+    Kind::Privilege
+}
+
+// Whether an expression is in order for its kind.
+fn in_order(b: &[u8], kind: Kind, n: usize, depth: Level) -> bool
+    requires { ⌜ 0 < n ⌝ }
+    ensures { λ r. ⌜ (r ≡ true) ↔ InOrder kind n (depth .0) (now (b .entry)) ⌝ }
+{
+    let found = expression::check(b, kind, n, depth);
+    match found {
+        Checked::Fine => true,
+        Checked::Wrong(_) => false,
+    }
+}
+
+// One place of a shelf: its expression in order, and zero past it.
+fn place_fine<'a>(
+    file: bool,
+    n: usize,
+    depth: Level,
+    lens: &'a [u8],
+    bytes: &'a [u8],
+    k: usize,
+) -> bool
+    requires { ⌜ (0 < n) × (k < length (now lens)) × (longest * k + longest ≤ length (now bytes)) ⌝ }
+    ensures { λ r. ⌜ (r ≡ true) ↔ PlaceFine (kindAt file k) n (depth .0) (now (lens .entry)) (now (bytes .entry)) k ⌝ }
+{
+    let m = wide(lens[k]);
+    if LONGEST < m {
+        return false;
+    }
+    let at = LONGEST * k;
+    let end = at + m;
+    let next = at + LONGEST;
+    let fine = in_order(&bytes[at..end], kind_at(file, k), n, depth);
+    fine & all_zero(&bytes[end..next])
+}
+
+// Every place of a shelf.
+fn shelf_fine<'a>(file: bool, n: usize, depth: Level, lens: &'a [u8], bytes: &'a [u8]) -> bool
+    requires { ⌜ (0 < n) × (length (now bytes) ≡ longest * length (now lens)) ⌝ }
+    ensures { λ r. ⌜ (r ≡ true) ↔ ShelfFine file n (depth .0) (now (lens .entry)) (now (bytes .entry)) ⌝ }
+{
+    let mut ok = true;
+    for k in 0..lens.len() {
+        ok = ok & place_fine(file, n, depth, lens, bytes, k);
+    }
+    ok
+}
+
+// A shelf that is used is fine; one that is not is zero.
+fn shelf_is<'a>(
+    used: bool,
+    file: bool,
+    n: usize,
+    depth: Level,
+    lens: &'a [u8],
+    bytes: &'a [u8],
+) -> bool
+    requires { ⌜ (0 < n) × (length (now bytes) ≡ longest * length (now lens)) ⌝ }
+    ensures { λ r. ⌜ (r ≡ true) ↔ ShelfIs used file n (depth .0) (now (lens .entry)) (now (bytes .entry)) ⌝ }
+{
+    if used {
+        return shelf_fine(file, n, depth, lens, bytes);
+    }
+    all_zero(lens) & all_zero(bytes)
+}
+
+fn role_is(r: Role, used: bool, n: usize, depth: Level) -> bool
+    requires { ⌜ 0 < n ⌝ }
+    ensures { λ x. ⌜ (x ≡ true) ↔ RoleIs used n (depth .0) r ⌝ }
+{
+    shelf_is(used, false, n, depth, &r.lens, &r.bytes)
+}
+
+fn file_is(f: File, used: bool, n: usize, depth: Level) -> bool
+    requires { ⌜ 0 < n ⌝ }
+    ensures { λ x. ⌜ (x ≡ true) ↔ FileIs used n (depth .0) f ⌝ }
+{
+    shelf_is(used, true, n, depth, &f.lens, &f.bytes)
+}
+
+impl State {
+    // The fresh state has the root alone, no role, no file, all slots free.
+    pub fn fresh() -> State
+        ensures { λ r. ⌜ r ≡ freshState ⌝ }
+    {
+        let tree = Tree {
+            n: 1,
+            parent: [0u8; SECURONS],
+        };
+        let role = Role {
+            lens: [0u8; ROLE_PLACES],
+            bytes: [0u8; ROLE_BYTES],
+        };
+        let file = File {
+            lens: [0u8; FILE_PLACES],
+            bytes: [0u8; FILE_BYTES],
+        };
+        let slot = Slot { hold: Hold::Free };
+        State {
+            tree,
+            nroles: 0,
+            roles: [role; ROLES],
+            nfiles: 0,
+            files: [file; FILES],
+            slots: [slot; SLOTS],
+        }
+    }
 }
