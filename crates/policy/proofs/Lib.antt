@@ -1,2 +1,4 @@
 pub mod Flags
 pub mod Places
+pub mod Trees
+pub mod Test

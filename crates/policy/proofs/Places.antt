@@ -1,5 +1,5 @@
 -- One place of a shelf: what its tests tell. Assumes nothing.
-use mathlib.Core.Path.{_≡_, sym, ap, _∙_, subst}
+use mathlib.Core.Path.{_≡_, refl, sym, ap, _∙_, subst}
 use mathlib.Core.Bool.{Bool, true, false, _&&_, false≢true}
 use mathlib.Core.List.{List}
 use mathlib.Core.Logic.{⊎-elim, _↔_}
@@ -17,6 +17,10 @@ use Rattle.policy.specs.Fine.{PlaceFine, ShelfFine, ShelfIs}
 -- a test that says no, where the fact does not hold
 pub no-iff : {A : Type 0} → (A → ⊥) → (false ≡ true) ↔ A
 no-iff n = ((λ e. absurd (false≢true e)), λ a. absurd (n a))
+
+-- and one that says yes
+pub yes-iff : {A : Type 0} → A → (true ≡ true) ↔ A
+yes-iff a = ((λ _. a), λ _. refl)
 
 -- what is in order has no fault
 pub wrong-disorder : {kind : Kind} {n d : ℕ} {bs : List ℕ} {k : ℕ} → WrongAt kind n d bs k → InOrder kind n d bs → ⊥

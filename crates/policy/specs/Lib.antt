@@ -1,3 +1,5 @@
 pub mod State
 pub mod WellFormed
 pub mod Fine
+pub mod Parts
+pub mod Whole

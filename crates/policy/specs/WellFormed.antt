@@ -1,11 +1,11 @@
 -- When a state is well formed. 01, "Requests": "Well formed means: counts and tree as above, every stored expression in order for its kind, held roles present, unused room zero." Definitions only.
 use mathlib.Core.Path.{_≡_}
+use mathlib.Core.Bool.{true}
 use mathlib.Core.List.{List}
+use mathlib.Core.Logic.{_↔_}
 use Prim.Native.Nat.{ℕ, _*_, _<_, _≤_}
 use lib.ListN.{length, getD}
 use Rattle.securon.specs.Sets.{securons}
-use Rattle.tree.specs.declared.Levels.{Levels}
-use Rattle.tree.specs.declared.Tree.{Tree}
 use Rattle.tree.specs.Tree.{IsTree, IsDepth, LevelsOf}
 use Rattle.expression.specs.declared.Kind.{Kind}
 use Rattle.expression.specs.declared.Kind.the-variants.{Privilege, Protection}
@@ -14,6 +14,7 @@ use Rattle.policy.specs.declared.Role.{Role}
 use Rattle.policy.specs.declared.File.{File}
 use Rattle.policy.specs.declared.Hold.the-variants.{By}
 use Rattle.policy.specs.declared.State.{State}
+use Rattle.policy.specs.declared.Examined.{Examined}
 use Rattle.policy.specs.State.{mostRoles, mostFiles, slotCount, modeCount, rolePlaces, filePlaces, vPlusPlace, vMinusPlace, m1Place, m2Place, bPlace, t1Place, ePlace, t2Place, gPlace, storedAt, roomPast, roleAt, fileAt, holdOf}
 
 -- the room of a state: 64 parents, 32 roles of thirteen places, 32 files of twenty places, sixteen slots, each place of 48 bytes. Every state that code holds has it
@@ -82,3 +83,8 @@ pub record WellFormed (s : State) : Type 0 where
   pub held-present : (i r : ℕ) → holdOf s i ≡ By r → r < s .nroles
   -- unused room zero
   pub unused-zero : UnusedZero s
+
+-- what the test of a state tells: whether it is well formed, and if so the levels of its securons
+pub record Examines (s : State) (r : Examined) : Type 0 where
+  pub says : (r .ok ≡ true) ↔ WellFormed s
+  pub levels : r .ok ≡ true → LevelsOf (s .tree) (r .levels)

@@ -5,6 +5,7 @@ use expression::LONGEST;
 use securon::Level;
 use securon::SECURONS;
 use tree::Levels;
+use tree::Shape;
 use tree::Tree;
 ghost use mathlib.Core.Path.{_≡_};
 ghost use mathlib.Core.Bool.{Bool, true, false};
@@ -13,8 +14,9 @@ ghost use Prim.Native.Nat.{ℕ, _+_, _*_, _<_, _≤_};
 ghost use lib.ListN.{length, getD};
 ghost use Rattle.policy.specs.State.{freshState};
 ghost use Rattle.expression.specs.Bytes.{longest, InOrder};
-ghost use Rattle.policy.specs.WellFormed.{AllZero};
-ghost use Rattle.policy.specs.Fine.{kindAt, PlaceFine, ShelfFine, ShelfIs, RoleIs, FileIs};
+ghost use Rattle.tree.specs.Tree.{IsTree};
+ghost use Rattle.policy.specs.WellFormed.{AllZero, Examines};
+ghost use Rattle.policy.specs.Fine.{kindAt, PlaceFine, ShelfFine, ShelfIs, RoleIs, FileIs, RolesAre, FilesAre, SlotIs, SlotsAre, TreeFine, TreeExamined};
 
 // The most roles and the most files; the slots.
 pub const ROLES: usize = 32;
@@ -210,6 +212,92 @@ fn file_is(f: File, used: bool, n: usize, depth: Level) -> bool
     shelf_is(used, true, n, depth, &f.lens, &f.bytes)
 }
 
+// The roles below the count are fine, the others zero.
+fn roles_are(roles: [Role; ROLES], count: usize, n: usize, depth: Level) -> bool
+    requires { ⌜ 0 < n ⌝ }
+    ensures { λ x. ⌜ (x ≡ true) ↔ RolesAre count n (depth .0) roles ⌝ }
+{
+    let mut ok = true;
+    for i in 0..ROLES {
+        let r = roles[i];
+        ok = ok & role_is(r, i < count, n, depth);
+    }
+    ok
+}
+
+// The files below the count are fine, the others zero.
+fn files_are(files: [File; FILES], count: usize, n: usize, depth: Level) -> bool
+    requires { ⌜ 0 < n ⌝ }
+    ensures { λ x. ⌜ (x ≡ true) ↔ FilesAre count n (depth .0) files ⌝ }
+{
+    let mut ok = true;
+    for i in 0..FILES {
+        let f = files[i];
+        ok = ok & file_is(f, i < count, n, depth);
+    }
+    ok
+}
+
+// A role that a slot holds is below the count.
+fn slot_is(s: Slot, count: usize) -> bool
+    ensures { λ x. ⌜ (x ≡ true) ↔ SlotIs count s ⌝ }
+{
+    let h = s.hold;
+    match h {
+        Hold::Free => true,
+        Hold::By(r) => wide(r) < count,
+    }
+}
+
+// Every held role is below the count.
+fn slots_are(slots: [Slot; SLOTS], count: usize) -> bool
+    ensures { λ x. ⌜ (x ≡ true) ↔ SlotsAre count slots ⌝ }
+{
+    let mut ok = true;
+    for i in 0..SLOTS {
+        let s = slots[i];
+        ok = ok & slot_is(s, count);
+    }
+    ok
+}
+
+// Of a tree, whether the parents that no securon has, those of the root and from n up, are zero.
+fn rest_zero(tree: Tree) -> bool
+    requires { ⌜ IsTree tree ⌝ }
+    ensures { λ x. ⌜ (x ≡ true) ↔ TreeFine tree ⌝ }
+{
+    let n = tree.n;
+    let parent = tree.parent;
+    (parent[0] == 0) & all_zero(&parent[n..])
+}
+
+// Whether it is a tree, and unused room is zero.
+fn tree_fine(tree: Tree) -> bool
+    ensures { λ x. ⌜ (x ≡ true) ↔ TreeFine tree ⌝ }
+{
+    let shape = tree.shape();
+    match shape {
+        Shape::Grown => rest_zero(tree),
+        Shape::CountWrong => false,
+        Shape::ParentWrong(_) => false,
+    }
+}
+
+// The same, with the levels of a tree that is fine.
+fn examine_tree(tree: Tree) -> Examined
+    ensures { λ r. ⌜ TreeExamined tree r ⌝ }
+{
+    if tree_fine(tree) {
+        let levels = tree.levels();
+        return Examined { ok: true, levels };
+    }
+    let levels = Levels {
+        of: [0u8; SECURONS],
+        depth: Level(0),
+    };
+    Examined { ok: false, levels }
+}
+
 impl State {
     // The fresh state has the root alone, no role, no file, all slots free.
     pub fn fresh() -> State
@@ -236,5 +324,29 @@ impl State {
             files: [file; FILES],
             slots: [slot; SLOTS],
         }
+    }
+
+    // Whether the state is well formed, and if so the levels of its securons, so that a request has them but once.
+    pub fn well_formed(self) -> Examined
+        ensures { λ r. ⌜ Examines self r ⌝ }
+    {
+        let tree = self.tree;
+        let grown = examine_tree(tree);
+        if !grown.ok {
+            return grown;
+        }
+        let levels = grown.levels;
+        let depth = levels.depth;
+        let n = tree.n;
+        let nroles = self.nroles;
+        let nfiles = self.nfiles;
+        let roles = self.roles;
+        let files = self.files;
+        let slots = self.slots;
+        let mut ok = (nroles <= ROLES) & (nfiles <= FILES);
+        ok = ok & roles_are(roles, nroles, n, depth);
+        ok = ok & files_are(files, nfiles, n, depth);
+        ok = ok & slots_are(slots, nroles);
+        Examined { ok, levels }
     }
 }
