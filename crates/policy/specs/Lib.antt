@@ -3,3 +3,4 @@ pub mod WellFormed
 pub mod Fine
 pub mod Parts
 pub mod Whole
+pub mod Shelves

@@ -42,39 +42,45 @@ abbrev pub changeProtection : ℕ
 changeProtection = 4
 
 -- the places of a role's expressions: mode after mode, V+ then V-; then M1, M2, B
+abbrev pub senses : ℕ
+senses = 2
+
 abbrev pub vPlusPlace : ℕ → ℕ
-vPlusPlace mode = 2 * mode
+vPlusPlace mode = senses * mode
 
 abbrev pub vMinusPlace : ℕ → ℕ
-vMinusPlace mode = 2 * mode + 1
+vMinusPlace mode = senses * mode + 1
 
 abbrev pub m1Place : ℕ
-m1Place = 10
+m1Place = senses * modeCount
 
 abbrev pub m2Place : ℕ
-m2Place = 11
+m2Place = m1Place + 1
 
 abbrev pub bPlace : ℕ
-bPlace = 12
+bPlace = m1Place + 2
 
 abbrev pub rolePlaces : ℕ
-rolePlaces = 13
+rolePlaces = m1Place + 3
 
 -- the places of a file's expressions: mode after mode, T1, E, T2, G
+abbrev pub rowParts : ℕ
+rowParts = 4
+
 abbrev pub t1Place : ℕ → ℕ
-t1Place mode = 4 * mode
+t1Place mode = rowParts * mode
 
 abbrev pub ePlace : ℕ → ℕ
-ePlace mode = 4 * mode + 1
+ePlace mode = rowParts * mode + 1
 
 abbrev pub t2Place : ℕ → ℕ
-t2Place mode = 4 * mode + 2
+t2Place mode = rowParts * mode + 2
 
 abbrev pub gPlace : ℕ → ℕ
-gPlace mode = 4 * mode + 3
+gPlace mode = rowParts * mode + 3
 
 abbrev pub filePlaces : ℕ
-filePlaces = 20
+filePlaces = rowParts * modeCount
 
 -- the expression at place k of a shelf: as many bytes as its length says, from 48 k on
 abbrev pub storedAt : List ℕ → List ℕ → ℕ → List ℕ

@@ -12,7 +12,7 @@ ghost use mathlib.Core.Bool.{Bool, true, false};
 ghost use mathlib.Core.Logic.{_↔_};
 ghost use Prim.Native.Nat.{ℕ, _+_, _*_, _<_, _≤_};
 ghost use lib.ListN.{length, getD};
-ghost use Rattle.policy.specs.State.{freshState};
+ghost use Rattle.policy.specs.State.{modeCount, mostRoles, mostFiles, slotCount, rolePlaces, filePlaces, vPlusPlace, vMinusPlace, t1Place, ePlace, t2Place, gPlace, storedAt, roleAt, fileAt, holdOf, freshState, putBytes, putRole, putFile, putPair, withHold, withFile};
 ghost use Rattle.expression.specs.Bytes.{longest, InOrder};
 ghost use Rattle.tree.specs.Tree.{IsTree};
 ghost use Rattle.policy.specs.WellFormed.{AllZero, Examines};
@@ -41,30 +41,18 @@ pub const CHANGE_PROTECTION: usize = 4;
 // A role's places: V+ and V- mode after mode, then M1, M2, B.
 pub const SENSES: usize = 2;
 
-pub const V_PLUS: usize = 0;
+pub const M1_PLACE: usize = SENSES * MODES;
 
-pub const V_MINUS: usize = 1;
+pub const M2_PLACE: usize = M1_PLACE + 1;
 
-pub const M1: usize = SENSES * MODES;
+pub const B_PLACE: usize = M1_PLACE + 2;
 
-pub const M2: usize = M1 + 1;
-
-pub const B: usize = M1 + 2;
-
-pub const ROLE_PLACES: usize = M1 + 3;
+pub const ROLE_PLACES: usize = M1_PLACE + 3;
 
 pub const ROLE_BYTES: usize = LONGEST * ROLE_PLACES;
 
 // A file's places: T1, E, T2, G mode after mode.
 pub const PARTS: usize = 4;
-
-pub const T1: usize = 0;
-
-pub const E: usize = 1;
-
-pub const T2: usize = 2;
-
-pub const G: usize = 3;
 
 pub const FILE_PLACES: usize = PARTS * MODES;
 
@@ -104,6 +92,54 @@ pub struct State {
 pub struct Examined {
     pub ok: bool,
     pub levels: Levels,
+}
+
+// The place of V+ of a mode.
+pub fn v_plus_place(mode: usize) -> usize
+    requires { ⌜ mode < modeCount ⌝ }
+    ensures { λ r. ⌜ r ≡ vPlusPlace mode ⌝ }
+{
+    SENSES * mode
+}
+
+// The place of V- of a mode.
+pub fn v_minus_place(mode: usize) -> usize
+    requires { ⌜ mode < modeCount ⌝ }
+    ensures { λ r. ⌜ r ≡ vMinusPlace mode ⌝ }
+{
+    SENSES * mode + 1
+}
+
+// The place of T1 of a mode; that of T2 is two further on.
+pub fn t1_place(mode: usize) -> usize
+    requires { ⌜ mode < modeCount ⌝ }
+    ensures { λ r. ⌜ r ≡ t1Place mode ⌝ }
+{
+    PARTS * mode
+}
+
+// The place of E of a mode; that of G is two further on.
+pub fn e_place(mode: usize) -> usize
+    requires { ⌜ mode < modeCount ⌝ }
+    ensures { λ r. ⌜ r ≡ ePlace mode ⌝ }
+{
+    PARTS * mode + 1
+}
+
+// The place of T2 of a mode.
+pub fn t2_place(mode: usize) -> usize
+    requires { ⌜ mode < modeCount ⌝ }
+    ensures { λ r. ⌜ r ≡ t2Place mode ⌝ }
+{
+    PARTS * mode + 2
+}
+
+// The place of G of a mode.
+pub fn g_place(mode: usize) -> usize
+    requires { ⌜ mode < modeCount ⌝ }
+    ensures { λ r. ⌜ r ≡ gPlace mode ⌝ }
+{
+    PARTS * mode + 3
 }
 
 // Whether every byte is zero. A flag and no early return, so that the loop can be vectorised.
@@ -298,6 +334,74 @@ fn examine_tree(tree: Tree) -> Examined
     Examined { ok: false, levels }
 }
 
+// The expression at place k of a shelf: a part of its bytes.
+pub fn stored<'a>(lens: &'a [u8], bytes: &'a [u8], k: usize) -> &'a [u8]
+    requires { ⌜ (k < length (now lens)) × (getD (now lens) k 0 ≤ longest) × (longest * k + longest ≤ length (now bytes)) ⌝ }
+    ensures { λ r. ⌜ now r ≡ storedAt (now (lens .entry)) (now (bytes .entry)) k ⌝ }
+{
+    let at = LONGEST * k;
+    let end = at + wide(lens[k]);
+    &bytes[at..end]
+}
+
+// The byte at i, and zero past the end.
+fn byte_or_zero(x: &[u8], i: usize) -> u8
+    ensures { λ r. ⌜ r ≡ getD (now (x .entry)) i 0 ⌝ }
+{
+    if i < x.len() {
+        return x[i];
+    }
+    0
+}
+
+// Stores the bytes of x at place k of a shelf, and zero past them; all else stays.
+fn put_bytes(bytes: &mut [u8], k: usize, x: &[u8])
+    requires { ⌜ (length (now x) ≤ longest) × (longest * k + longest ≤ length (now bytes)) ⌝ }
+    ensures { λ r. ⌜ now (bytes .exit) ≡ putBytes (now (bytes .entry)) k (now (x .entry)) ⌝ }
+{
+    let at = LONGEST * k;
+    for i in 0..LONGEST {
+        bytes[at + i] = byte_or_zero(x, i);
+    }
+}
+
+impl Role {
+    // The role with x stored at place k.
+    pub fn put(self, k: usize, x: &[u8]) -> Role
+        requires { ⌜ (k < rolePlaces) × (length (now x) ≤ longest) ⌝ }
+        ensures { λ r. ⌜ r ≡ putRole self k (now (x .entry)) ⌝ }
+    {
+        let mut lens = self.lens;
+        let mut bytes = self.bytes;
+        lens[k] = x.len() as u8;
+        put_bytes(&mut bytes, k, x);
+        Role { lens, bytes }
+    }
+}
+
+impl File {
+    // The file with x stored at place k.
+    pub fn put(self, k: usize, x: &[u8]) -> File
+        requires { ⌜ (k < filePlaces) × (length (now x) ≤ longest) ⌝ }
+        ensures { λ r. ⌜ r ≡ putFile self k (now (x .entry)) ⌝ }
+    {
+        let mut lens = self.lens;
+        let mut bytes = self.bytes;
+        lens[k] = x.len() as u8;
+        put_bytes(&mut bytes, k, x);
+        File { lens, bytes }
+    }
+
+    // The file with x stored at place k, and y two places on: T1 with T2, or E with G.
+    pub fn put_pair(self, k: usize, x: &[u8], y: &[u8]) -> File
+        requires { ⌜ (k + 2 < filePlaces) × (length (now x) ≤ longest) × (length (now y) ≤ longest) ⌝ }
+        ensures { λ r. ⌜ r ≡ putPair self k (now (x .entry)) (now (y .entry)) ⌝ }
+    {
+        let first = self.put(k, x);
+        first.put(k + 2, y)
+    }
+}
+
 impl State {
     // The fresh state has the root alone, no role, no file, all slots free.
     pub fn fresh() -> State
@@ -348,5 +452,53 @@ impl State {
         ok = ok & files_are(files, nfiles, n, depth);
         ok = ok & slots_are(slots, nroles);
         Examined { ok, levels }
+    }
+
+    // Role i.
+    pub fn role(self, i: usize) -> Role
+        requires { ⌜ i < mostRoles ⌝ }
+        ensures { λ r. ⌜ r ≡ roleAt self i ⌝ }
+    {
+        let roles = self.roles;
+        roles[i]
+    }
+
+    // File i.
+    pub fn file(self, i: usize) -> File
+        requires { ⌜ i < mostFiles ⌝ }
+        ensures { λ r. ⌜ r ≡ fileAt self i ⌝ }
+    {
+        let files = self.files;
+        files[i]
+    }
+
+    // What slot i holds.
+    pub fn hold(self, i: usize) -> Hold
+        requires { ⌜ i < slotCount ⌝ }
+        ensures { λ r. ⌜ r ≡ holdOf self i ⌝ }
+    {
+        let slots = self.slots;
+        let slot = slots[i];
+        slot.hold
+    }
+
+    // The same state with slot i holding `hold`.
+    pub fn with_hold(mut self, i: usize, hold: Hold) -> State
+        requires { ⌜ i < slotCount ⌝ }
+        ensures { λ r. ⌜ r ≡ withHold self i hold ⌝ }
+    {
+        let mut slots = self.slots;
+        slots[i] = Slot { hold };
+        self.slots = slots;
+        self
+    }
+
+    // The same state with another file i.
+    pub fn with_file(mut self, i: usize, f: File) -> State
+        requires { ⌜ i < mostFiles ⌝ }
+        ensures { λ r. ⌜ r ≡ withFile self i f ⌝ }
+    {
+        self.files[i] = f;
+        self
     }
 }
