@@ -4,3 +4,4 @@ pub mod Fine
 pub mod Parts
 pub mod Whole
 pub mod Shelves
+pub mod Kept

@@ -214,10 +214,14 @@ putFile f k x = record { lens = set (f .lens) k (length x); bytes = putBytes (f 
 abbrev pub putPair : File → ℕ → List ℕ → List ℕ → File
 putPair f k x y = putFile (putFile f k x) (k + 2) y
 
+-- the same state with x stored at place k of a file, and y two places on
+abbrev pub withPair : State → ℕ → ℕ → List ℕ → List ℕ → State
+withPair s file k x y = withFile s file (putPair (fileAt s file) k x y)
+
 -- the same state with T1 and T2 of the file's row stored
 abbrev pub withT1T2 : State → ℕ → ℕ → List ℕ → List ℕ → State
-withT1T2 s file mode t1 t2 = withFile s file (putPair (fileAt s file) (t1Place mode) t1 t2)
+withT1T2 s file mode t1 t2 = withPair s file (t1Place mode) t1 t2
 
 -- the same state with E and G of the file's row stored
 abbrev pub withEG : State → ℕ → ℕ → List ℕ → List ℕ → State
-withEG s file mode e g = withFile s file (putPair (fileAt s file) (ePlace mode) e g)
+withEG s file mode e g = withPair s file (ePlace mode) e g

@@ -34,7 +34,7 @@ module _ {i count : ℕ} {file : Bool} {n d : ℕ} {lens bytes : List ℕ} where
   shelf-is f z = record { fine = λ e. f (ltb-true i count e); zero = λ e. z (ltb-false i count e) }
 
 -- a free slot holds no role
-free-held : {r : ℕ} → Free ≡ By r → ⊥
+pub free-held : {r : ℕ} → Free ≡ By r → ⊥
 free-held e = let z : _≡_ {A = ℕ} 0 1 = cc in omega arith
 
 -- past the last there is nothing

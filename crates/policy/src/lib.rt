@@ -12,7 +12,7 @@ ghost use mathlib.Core.Bool.{Bool, true, false};
 ghost use mathlib.Core.Logic.{_↔_};
 ghost use Prim.Native.Nat.{ℕ, _+_, _*_, _<_, _≤_};
 ghost use lib.ListN.{length, getD};
-ghost use Rattle.policy.specs.State.{modeCount, mostRoles, mostFiles, slotCount, rolePlaces, filePlaces, vPlusPlace, vMinusPlace, t1Place, ePlace, t2Place, gPlace, storedAt, roleAt, fileAt, holdOf, freshState, putBytes, putRole, putFile, putPair, withHold, withFile};
+ghost use Rattle.policy.specs.State.{modeCount, mostRoles, mostFiles, slotCount, rolePlaces, filePlaces, vPlusPlace, vMinusPlace, t1Place, ePlace, t2Place, gPlace, storedAt, roleAt, fileAt, holdOf, freshState, putBytes, putRole, putFile, putPair, withHold, withFile, withPair};
 ghost use Rattle.expression.specs.Bytes.{longest, InOrder};
 ghost use Rattle.tree.specs.Tree.{IsTree};
 ghost use Rattle.policy.specs.WellFormed.{AllZero, Examines};
@@ -500,5 +500,14 @@ impl State {
     {
         self.files[i] = f;
         self
+    }
+
+    // The same state with x stored at place k of a file, and y two places on: T1 with T2, or E with G.
+    pub fn with_pair(self, file: usize, k: usize, x: &[u8], y: &[u8]) -> State
+        requires { ⌜ (file < mostFiles) × (k + 2 < filePlaces) × (length (now x) ≤ longest) × (length (now y) ≤ longest) ⌝ }
+        ensures { λ r. ⌜ r ≡ withPair self file k (now (x .entry)) (now (y .entry)) ⌝ }
+    {
+        let f = self.file(file);
+        self.with_file(file, f.put_pair(k, x, y))
     }
 }

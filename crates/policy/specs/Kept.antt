@@ -1,0 +1,169 @@
+-- A well-formed state stays so where a slot is set, and where two expressions in order are stored. Assumes nothing.
+use mathlib.Core.Path.{_≡_, refl, sym, ap, _∙_, subst}
+use mathlib.Core.Bool.{Bool, true, false, true≢false}
+use mathlib.Core.List.{List}
+use Prim.Native.Nat.{ℕ, _+_, _*_, _<_, _≤_, _%_}
+use native.Mathlib.Decide.{ℕ-discrete}
+use native.Mathlib.Omega.{arith}
+use borrow.Author.Tests.{lt-ltb}
+use lib.Dec.{ltb}
+use lib.ListN.{length, getD, set, length-set}
+use lib.Seq.{getD-set-same, getD-set-other}
+use Rattle.tree.specs.Tree.{IsDepth}
+use Rattle.expression.specs.declared.Kind.{Kind}
+use Rattle.expression.specs.declared.Kind.the-variants.{Privilege, Protection}
+use Rattle.expression.specs.Bytes.{longest, InOrder}
+use Rattle.policy.specs.declared.File.{File}
+use Rattle.policy.specs.declared.Hold.{Hold}
+use Rattle.policy.specs.declared.Hold.the-variants.{Free, By}
+use Rattle.policy.specs.declared.Slot.{Slot}
+use Rattle.policy.specs.declared.State.{State}
+use Rattle.policy.specs.State.{mostFiles, slotCount, modeCount, filePlaces, offFile, freeSlot, fileAt, holdOf, putBytes, putFile, putPair, withHold, withFile, withPair, withT1T2, withEG, t1Place, t2Place, ePlace, gPlace}
+use Rattle.policy.specs.WellFormed.{HasPlaces, AllZero, WellFormed}
+use Rattle.policy.specs.Fine.{kindAt, PlaceFine, ShelfFine, ShelfIs, FileIs, StateFine}
+use Rattle.policy.specs.Parts.{even-kind, odd-kind}
+use Rattle.policy.specs.Shelves.{put-length, stored-put, past-put, stored-other, past-other}
+use Rattle.policy.specs.Whole.{free-held, used-fine, fine-well-formed, well-formed-fine}
+
+-- x is put at place k of a shelf
+module _ {places : ℕ} {lens bytes : List ℕ} (p : HasPlaces places lens bytes) (k : ℕ) (h : k < places) (x : List ℕ) (hx : length x ≤ longest) where
+  -- the shelf has its room as before
+  pub put-places : HasPlaces places (set lens k (length x)) (putBytes bytes k x)
+  put-places = record {
+    lengths = length-set lens k (length x) ∙ p .lengths;
+    room = put-length bytes k x hx (omega (arith, p .room)) ∙ p .room;
+  }
+
+  -- and is fine, where x is in order for the kind of its place
+  pub put-fine : (file : Bool) (n d : ℕ) → ShelfFine file n d lens bytes → InOrder (kindAt file k) n d x → ShelfFine file n d (set lens k (length x)) (putBytes bytes k x)
+  put-fine file n d f o j l = go (ℕ-discrete j k)
+    where
+      here : PlaceFine (kindAt file k) n d (set lens k (length x)) (putBytes bytes k x) k
+      here =
+          let b : longest * k + longest ≤ length bytes = omega (arith, p .room) in
+          let g : k < length lens = omega (arith, p .lengths) in
+          record {
+            part = record {
+              short = omega (arith, getD-set-same lens k (length x) 0 g);
+              in-order = subst (InOrder (kindAt file k) n d) (sym (stored-put bytes k x hx b lens g)) o;
+            };
+            past = past-put bytes k x hx b lens g;
+          }
+
+      there : (j ≡ k → ⊥) → PlaceFine (kindAt file j) n d (set lens k (length x)) (putBytes bytes k x) j
+      there m =
+          let b : longest * k + longest ≤ length bytes = omega (arith, p .room) in
+          let g : j < length lens = omega (arith, length-set lens k (length x)) in
+          let c : longest * j + longest ≤ length bytes = omega (arith, p .room, p .lengths) in
+          let was = f j g in
+          record {
+            part = record {
+              short = omega (arith, getD-set-other lens k j (length x) 0 m, was .part .short);
+              in-order = subst (InOrder (kindAt file j) n d) (sym (stored-other bytes k x hx b lens j m (was .part .short) c)) (was .part .in-order);
+            };
+            past = subst AllZero (sym (past-other bytes k x hx b lens j m (was .part .short) c)) (was .past);
+          }
+
+      go : Dec (j ≡ k) → PlaceFine (kindAt file j) n d (set lens k (length x)) (putBytes bytes k x) j
+      go (yes e) = subst (λ (i : ℕ). PlaceFine (kindAt file i) n d (set lens k (length x)) (putBytes bytes k x) i) (sym e) here
+      go (no m) = there m
+
+module _ (s : State) (w : WellFormed s) where
+  -- a slot is set to hold what is no absent role
+  pub hold-kept : (i : ℕ) → i < slotCount → (h : Hold) → ((r : ℕ) → h ≡ By r → r < s .nroles) → WellFormed (withHold s i h)
+  hold-kept i l h present = record {
+    room = record {
+      parents = w .room .parents;
+      roles = w .room .roles;
+      role-places = w .room .role-places;
+      files = w .room .files;
+      file-places = w .room .file-places;
+      slots = length-set (s .slots) i (record { hold = h }) ∙ w .room .slots;
+    };
+    tree = w .tree;
+    role-count = w .role-count;
+    file-count = w .file-count;
+    depth = w .depth;
+    is-depth = w .is-depth;
+    roles-in-order = w .roles-in-order;
+    files-in-order = w .files-in-order;
+    held-present = λ j r e. go j r e (ℕ-discrete j i);
+    unused-zero = record {
+      root = w .unused-zero .root;
+      parents = w .unused-zero .parents;
+      role-bytes = w .unused-zero .role-bytes;
+      roles = w .unused-zero .roles;
+      file-bytes = w .unused-zero .file-bytes;
+      files = w .unused-zero .files;
+    };
+  }
+    where
+      go : (j r : ℕ) → holdOf (withHold s i h) j ≡ By r → Dec (j ≡ i) → r < s .nroles
+      go j r e (yes q) =
+          present r (sym (ap (λ (x : Slot). x .hold) (getD-set-same (s .slots) i (record { hold = h }) freeSlot (omega (arith, w .room .slots)))) ∙ ap (λ (k : ℕ). holdOf (withHold s i h) k) (sym q) ∙ e)
+      go j r e (no n) =
+          w .held-present j r (sym (ap (λ (x : Slot). x .hold) (getD-set-other (s .slots) i j (record { hold = h }) freeSlot n)) ∙ e)
+
+  -- begin: the slot holds a role that is present
+  pub by-kept : (i r : ℕ) → i < slotCount → r < s .nroles → WellFormed (withHold s i (By r))
+  by-kept i r l p = hold-kept i l (By r) (λ q e. let same : r ≡ q = cc in omega arith)
+
+  -- end: the slot is free
+  pub free-kept : (i : ℕ) → i < slotCount → WellFormed (withHold s i Free)
+  free-kept i l = hold-kept i l Free (λ q e. absurd (free-held e))
+
+  module _ (d : ℕ) (deep : IsDepth (s .tree) d) (file : ℕ) (present : file < s .nfiles) where
+    was : FileIs true (s .tree .n) d (fileAt s file)
+    was =
+        let it = well-formed-fine s d deep w .files .each file (omega (arith, w .file-count)) in
+        record { places = it .places; shelf = record { fine = λ _. used-fine (it .shelf) present; zero = λ e. absurd (true≢false e) } }
+
+    -- a present file is replaced by one that is fine
+    file-kept : (f : File) → FileIs true (s .tree .n) d f → WellFormed (withFile s file f)
+    file-kept f is =
+        let all = well-formed-fine s d deep w in
+        fine-well-formed (withFile s file f) d deep (record {
+          tree = all .tree;
+          role-count = all .role-count;
+          file-count = all .file-count;
+          roles = all .roles;
+          files = record { room = length-set (s .files) file f ∙ all .files .room; each = λ i l. go i l (ℕ-discrete i file) };
+          slots = all .slots;
+        })
+      where
+        go : (i : ℕ) → i < mostFiles → Dec (i ≡ file) → FileIs (ltb i (s .nfiles)) (s .tree .n) d (getD (set (s .files) file f) i offFile)
+        go i l (yes e) =
+            let here : getD (set (s .files) file f) i offFile ≡ f = ap (λ (j : ℕ). getD (set (s .files) file f) j offFile) e ∙ getD-set-same (s .files) file f offFile (omega (arith, w .room .files, w .file-count)) in
+            let used : ltb i (s .nfiles) ≡ true = lt-ltb i (s .nfiles) (omega arith) in
+            subst (λ (x : File). FileIs (ltb i (s .nfiles)) (s .tree .n) d x) (sym here) (subst (λ (b : Bool). FileIs b (s .tree .n) d f) (sym used) is)
+        go i l (no m) =
+            subst (λ (x : File). FileIs (ltb i (s .nfiles)) (s .tree .n) d x) (sym (getD-set-other (s .files) file i f offFile m)) (well-formed-fine s d deep w .files .each i l)
+
+    -- two expressions are stored that are in order for the kinds of their places
+    pub pair-kept : (k : ℕ) (x y : List ℕ) → k + 2 < filePlaces → InOrder (kindAt true k) (s .tree .n) d x → InOrder (kindAt true (k + 2)) (s .tree .n) d y → WellFormed (withPair s file k x y)
+    pair-kept k x y h o q = file-kept (putPair (fileAt s file) k x y) (record {
+      places = second;
+      shelf = record {
+        fine = λ _. put-fine first (k + 2) h y (q .0) true _ _ (put-fine (was .places) k (omega arith) x (o .0) true _ _ (was .shelf .fine refl) o) q;
+        zero = λ e. absurd (true≢false e);
+      };
+    })
+      where
+        first : HasPlaces filePlaces (putFile (fileAt s file) k x .lens) (putFile (fileAt s file) k x .bytes)
+        first = put-places (was .places) k (omega arith) x (o .0)
+
+        second : HasPlaces filePlaces (putPair (fileAt s file) k x y .lens) (putPair (fileAt s file) k x y .bytes)
+        second = put-places first (k + 2) h y (q .0)
+
+    module _ (mode : ℕ) (few : mode < modeCount) (x y : List ℕ) where
+      -- change: T1 and T2 are stored
+      pub t1t2-kept : InOrder Protection (s .tree .n) d x → InOrder Protection (s .tree .n) d y → WellFormed (withT1T2 s file mode x y)
+      t1t2-kept o q = pair-kept (t1Place mode) x y (omega arith)
+          (subst (λ (kind : Kind). InOrder kind (s .tree .n) d x) (sym (even-kind (t1Place mode) (omega arith))) o)
+          (subst (λ (kind : Kind). InOrder kind (s .tree .n) d y) (sym (even-kind (t1Place mode + 2) (omega arith))) q)
+
+      -- bypass: E and G are stored
+      pub eg-kept : InOrder Privilege (s .tree .n) d x → InOrder Privilege (s .tree .n) d y → WellFormed (withEG s file mode x y)
+      eg-kept o q = pair-kept (ePlace mode) x y (omega arith)
+          (subst (λ (kind : Kind). InOrder kind (s .tree .n) d x) (sym (odd-kind (ePlace mode) (omega arith))) o)
+          (subst (λ (kind : Kind). InOrder kind (s .tree .n) d y) (sym (odd-kind (ePlace mode + 2) (omega arith))) q)
