@@ -5,3 +5,5 @@ pub mod Parts
 pub mod Whole
 pub mod Shelves
 pub mod Kept
+pub mod Fresh
+pub mod Reads

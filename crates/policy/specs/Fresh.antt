@@ -1,0 +1,63 @@
+-- The fresh state is well formed. Assumes nothing.
+use mathlib.Core.Path.{_≡_, refl, sym, ap, _∙_, subst}
+use mathlib.Core.List.{List}
+use Prim.Native.Nat.{ℕ, zero, suc, _*_, _<_, _≤_}
+use native.Mathlib.Omega.{arith}
+use lib.Dec.{ltb}
+use lib.ListN.{length, getD, replicate, length-replicate, getD-replicate}
+use Rattle.securon.specs.Sets.{securons}
+use Rattle.tree.specs.Tree.{HasLevel, root, IsDepth}
+use Rattle.tree.specs.Laws.{one-level}
+use Rattle.expression.specs.Bytes.{longest}
+use Rattle.policy.specs.declared.Role.{Role}
+use Rattle.policy.specs.declared.File.{File}
+use Rattle.policy.specs.declared.Hold.the-variants.{By}
+use Rattle.policy.specs.declared.Slot.{Slot}
+use Rattle.policy.specs.State.{mostRoles, mostFiles, slotCount, rolePlaces, filePlaces, offRole, offFile, freeSlot, noRole, noFile, rootAlone, freshState}
+use Rattle.policy.specs.WellFormed.{HasPlaces, ZeroShelf, WellFormed}
+use Rattle.policy.specs.Fine.{RoleIs, FileIs, SlotIs}
+use Rattle.policy.specs.Whole.{shelf-is, free-held, fine-well-formed}
+
+-- zero, however many
+zeros-at : (n i : ℕ) → _≡_ {A = ℕ} (getD (replicate n 0) i 0) 0
+zeros-at zero i = refl
+zeros-at (suc n) zero = refl
+zeros-at (suc n) (suc i) = zeros-at n i
+
+-- a shelf of zeros
+pub zero-places : (places : ℕ) → HasPlaces places (replicate places 0) (replicate (longest * places) 0)
+zero-places places = record { lengths = length-replicate {A = ℕ} places 0; room = length-replicate {A = ℕ} (longest * places) 0 }
+
+pub zero-shelf : (places : ℕ) → ZeroShelf (replicate places 0) (replicate (longest * places) 0)
+zero-shelf places = record { lengths = zeros-at places; room = zeros-at (longest * places) }
+
+-- the root alone has depth 0
+pub root-depth : IsDepth rootAlone 0
+root-depth = record {
+  deepest = (0, omega arith, root);
+  largest = λ u k h l. let e : u ≡ 0 = omega arith in omega (arith, one-level l root e);
+}
+
+pub fresh-well-formed : WellFormed freshState
+fresh-well-formed = fine-well-formed freshState 0 root-depth (record {
+  tree = record {
+    room = length-replicate {A = ℕ} securons 0;
+    is-tree = record { count = (omega arith, omega arith); smaller = λ u p h. absurd (omega arith) };
+    root = refl;
+    past = λ u h. zeros-at securons u;
+  };
+  role-count = omega arith;
+  file-count = omega arith;
+  roles = record {
+    room = length-replicate mostRoles noRole;
+    each = λ i h. subst (RoleIs (ltb i 0) 1 0) (sym (getD-replicate mostRoles i noRole offRole h)) (record { places = zero-places rolePlaces; shelf = shelf-is {i = i} {count = 0} (λ l. absurd (omega arith)) (λ _. zero-shelf rolePlaces) });
+  };
+  files = record {
+    room = length-replicate mostFiles noFile;
+    each = λ i h. subst (FileIs (ltb i 0) 1 0) (sym (getD-replicate mostFiles i noFile offFile h)) (record { places = zero-places filePlaces; shelf = shelf-is {i = i} {count = 0} (λ l. absurd (omega arith)) (λ _. zero-shelf filePlaces) });
+  };
+  slots = record {
+    room = length-replicate slotCount freeSlot;
+    each = λ i h. subst (SlotIs 0) (sym (getD-replicate slotCount i freeSlot freeSlot h)) (λ r e. absurd (free-held e));
+  };
+})
