@@ -1,4 +1,12 @@
 pub mod Expression
 pub mod Bytes
+pub mod Judge
+pub mod Laws
 pub mod Scan
+pub mod Unique
+pub mod One
 pub mod Heads
+pub mod Fronts
+pub mod Decide
+pub mod Starred
+pub mod StarredLaws

@@ -19,10 +19,10 @@ abbrev pub cat : List Expr → List ℕ
 cat [] = []
 cat (e ∷ es) = bytes e ++ cat es
 
-head-is : {x y : ℕ} {r t : List ℕ} → x ∷ r ≡ y ∷ t → x ≡ y
+pub head-is : {x y : ℕ} {r t : List ℕ} → x ∷ r ≡ y ∷ t → x ≡ y
 head-is e = cc
 
-tail-is : {x y : ℕ} {r t : List ℕ} → x ∷ r ≡ y ∷ t → r ≡ t
+pub tail-is : {x y : ℕ} {r t : List ℕ} → x ∷ r ≡ y ∷ t → r ≡ t
 tail-is e = cc
 
 pub cons-nil : {x : ℕ} {r : List ℕ} → x ∷ r ≡ [] → ⊥
@@ -235,3 +235,8 @@ module _ (kind : Kind) (n d : ℕ) where
     where
       go : (k : ℕ) (w : Begins (Right kind n d) (take (k + 1) (x ∷ l))) → take (k + 1) (x ∷ l) ++ w .0 ≡ [] → ⊥
       go k w e = let q : k + 1 ≡ suc k = omega arith in cons-nil (rw q at e)
+
+-- a list of length 0 is none
+pub nil-of : (l : List ℕ) → length l ≡ 0 → l ≡ []
+nil-of [] e = refl
+nil-of (x ∷ l) e = absurd (omega arith)

@@ -1,5 +1,5 @@
 -- The laws of marks, once over any number of them. Assumes nothing.
-use mathlib.Core.Path.{_≡_, refl, sym, _∙_}
+use mathlib.Core.Path.{_≡_, refl, sym, _∙_, subst}
 use mathlib.Core.Bool.{Bool, true, false, false≢true}
 use mathlib.Core.List.{List, [], _∷_}
 use mathlib.Core.Logic.{_⊎_, inl, inr, ⊎-elim, _↔_}
@@ -9,7 +9,7 @@ use native.Mathlib.Decide.{ℕ-discrete}
 use native.Mathlib.Omega.{arith}
 use lib.ListN.{length, getD, set, replicate, length-set}
 use lib.Seq.{getD-set-same, getD-set-other}
-use Rattle.securon.specs.Sets.{only, _∪_, _≐_, marked}
+use Rattle.securon.specs.Sets.{Set, only, _∪_, _≐_, marked}
 use Rattle.securon.specs.Iff.{iff-trans}
 
 -- who is marked stands among the marks
@@ -39,20 +39,20 @@ one-marked l s h u = go (ℕ-discrete u s)
 pub beyond : (l : List Bool) (u : ℕ) → length l ≤ u → marked l u → ⊥
 beyond l u h m = omega (arith, within l u m)
 
--- r has the members of a and those of b below k
-pub record Joined (a b r : List Bool) (k : ℕ) : Type 0 where
+-- r has the members of a and those of B below k
+pub record Joined (a : List Bool) (B : Set) (r : List Bool) (k : ℕ) : Type 0 where
   pub long : length r ≡ length a
-  pub are : (u : ℕ) → marked r u ↔ (marked a u ⊎ (marked b u × (u < k)))
+  pub are : (u : ℕ) → marked r u ↔ (marked a u ⊎ (B u × (u < k)))
 
-pub joined-none : (a b : List Bool) → Joined a b a 0
-joined-none a b = record {
+pub joined-none : (a : List Bool) (B : Set) → Joined a B a 0
+joined-none a B = record {
   long = refl;
   are = λ u. (inl, ⊎-elim (λ m. m) (λ w. absurd (not-suc-le-zero (w .1))));
 }
 
-module _ {a b r : List Bool} {k : ℕ} (j : Joined a b r k) where
-  pub joined-skip : getD b k false ≡ false → Joined a b r (k + 1)
-  joined-skip e = record {
+module _ {a : List Bool} {B : Set} {r : List Bool} {k : ℕ} (j : Joined a B r k) where
+  pub joined-skip : (B k → ⊥) → Joined a B r (k + 1)
+  joined-skip n = record {
     long = j .long;
     are = λ u. iff-trans (j .are u) (
       ⊎-elim inl (λ w. inr (w .0, omega (arith, w .1))),
@@ -60,25 +60,23 @@ module _ {a b r : List Bool} {k : ℕ} (j : Joined a b r k) where
     );
   }
     where
-      go : (u : ℕ) → marked b u × (u < k + 1) → Dec (u ≡ k) → u < k
-      go u w (yes q) = absurd (false≢true (sym e ∙ rw q at (w .0)))
+      go : (u : ℕ) → B u × (u < k + 1) → Dec (u ≡ k) → u < k
+      go u w (yes q) = absurd (n (subst B q (w .0)))
       go u w (no q) = omega (arith, w .1)
 
-  pub joined-mark : k < length a → getD b k false ≡ true → Joined a b (set r k true) (k + 1)
-  joined-mark h e = record {
+  pub joined-mark : k < length a → B k → Joined a B (set r k true) (k + 1)
+  joined-mark h b = record {
     long = length-set r k true ∙ j .long;
     are = λ u. iff-trans (one-marked r k (omega (arith, j .long)) u) (
-      ⊎-elim (λ m. ⊎-elim inl (λ w. inr (w .0, omega (arith, w .1))) (j .are u .0 m)) (λ q. inr (rw q e, omega arith)),
+      ⊎-elim (λ m. ⊎-elim inl (λ w. inr (w .0, omega (arith, w .1))) (j .are u .0 m)) (λ q. inr (subst B (sym q) b, omega arith)),
       ⊎-elim (λ m. inl (j .are u .1 (inl m))) (λ w. go u w (ℕ-discrete u k)),
     );
   }
     where
-      go : (u : ℕ) → marked b u × (u < k + 1) → Dec (u ≡ k) → marked r u ⊎ (u ≡ k)
+      go : (u : ℕ) → B u × (u < k + 1) → Dec (u ≡ k) → marked r u ⊎ (u ≡ k)
       go u w (yes q) = inr q
       go u w (no q) = inl (j .are u .1 (inr (w .0, omega (arith, w .1))))
 
-  pub joined-all : length b ≤ k → marked r ≐ marked a ∪ marked b
-  joined-all h u = iff-trans (j .are u) (
-    ⊎-elim inl (λ w. inr (w .0)),
-    ⊎-elim inl (λ m. inr (m, omega (arith, within b u m))),
-  )
+  -- where nobody of B stands from k on, r is the union
+  pub joined-all : ((u : ℕ) → B u → u < k) → marked r ≐ marked a ∪ B
+  joined-all h u = iff-trans (j .are u) (⊎-elim inl (λ w. inr (w .0)), ⊎-elim inl (λ m. inr (m, h u m)))

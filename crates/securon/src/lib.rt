@@ -40,10 +40,7 @@ impl SecuronSet {
         requires { ⌜ s .0 < securons ⌝ }
         ensures { λ r. ⌜ marked (r .has) ≐ only (s .0) ⌝ }
     {
-        let mut r = SecuronSet::EMPTY;
-        let k = s.0 as usize;
-        r.has[k] = true;
-        r
+        SecuronSet::empty().with(s)
     }
 
     // Whether s is a member.
@@ -51,8 +48,8 @@ impl SecuronSet {
         requires { ⌜ s .0 < securons ⌝ }
         ensures { λ r. ⌜ (r ≡ true) ↔ marked (self .has) (s .0) ⌝ }
     {
-        let k = s.0 as usize;
-        self.has[k]
+        let at = s.0 as usize;
+        self.has[at]
     }
 
     // The set with s added.
@@ -61,18 +58,18 @@ impl SecuronSet {
         ensures { λ r. ⌜ marked (r .has) ≐ marked (self .has) ∪ only (s .0) ⌝ }
     {
         let mut r = self;
-        let k = s.0 as usize;
-        r.has[k] = true;
+        let at = s.0 as usize;
+        r.has[at] = true;
         r
     }
 
     // Both sets' members.
-    pub fn union(self, other: SecuronSet) -> SecuronSet
-        ensures { λ r. ⌜ marked (r .has) ≐ marked (self .has) ∪ marked (other .has) ⌝ }
+    pub fn union(self, more: SecuronSet) -> SecuronSet
+        ensures { λ r. ⌜ marked (r .has) ≐ marked (self .has) ∪ marked (more .has) ⌝ }
     {
         let mut r = self;
         for k in 0..SECURONS {
-            if other.has[k] {
+            if more.has[k] {
                 r.has[k] = true;
             }
         }

@@ -4,11 +4,14 @@ use mathlib.Core.List.{List}
 use mathlib.Core.Logic.{inl, inr, ⊎-elim, _↔_}
 use Prim.Native.Nat.{ℕ, suc, _<_, _≤_}
 use native.Mathlib.Nat.{le-refl}
+use native.Mathlib.Decide.{decLt}
 use native.Mathlib.Omega.{arith}
 use lib.ListN.{getD}
 use Rattle.securon.specs.Sets.{securons}
 use Rattle.tree.specs.declared.Tree.{Tree}
-use Rattle.tree.specs.Tree.{Reaches, here, up, Related, HasLevel, root, child, SmallerBelow, Climbs, IsTree}
+use Rattle.tree.specs.declared.Shape.{Shape}
+use Rattle.tree.specs.declared.Shape.the-variants.{Grown, CountWrong, ParentWrong}
+use Rattle.tree.specs.Tree.{Reaches, here, up, Related, HasLevel, root, child, SmallerBelow, Climbs, IsTree, IsDepth, Shaped}
 
 -- a walk that is not at its end goes on from the parent
 pub reaches-up : {p : List ℕ} {a b : ℕ} → Reaches p a b → (a ≡ b → ⊥) → Reaches p (getD p a 0) b
@@ -52,3 +55,27 @@ related-below {p} {a} {b} ca cb h = (inl, ⊎-elim (λ r. r) (λ r. subst (Reach
 
 pub related-sym : {p : List ℕ} {a b : ℕ} → Related p a b ↔ Related p b a
 related-sym = (⊎-elim inr inl, ⊎-elim inr inl)
+
+-- a tree has one depth
+pub one-depth : {t : Tree} {d e : ℕ} → IsDepth t d → IsDepth t e → d ≡ e
+one-depth {t} {d} {e} p q =
+    let a = p .deepest in
+    let b = q .deepest in
+    omega (arith, q .largest (a .0) d (a .1) (a .2), p .largest (b .0) e (b .1) (b .2))
+
+-- a count and parents have one shape
+pub one-shape : (t : Tree) (a b : Shape) → Shaped t a → Shaped t b → a ≡ b
+one-shape t Grown Grown p q = refl
+one-shape t Grown CountWrong p q = absurd (q (p .count))
+one-shape t Grown (ParentWrong k) p q = absurd (omega (arith, p .smaller k (q .1) (q .2)))
+one-shape t CountWrong Grown p q = absurd (p (q .count))
+one-shape t CountWrong CountWrong p q = refl
+one-shape t CountWrong (ParentWrong k) p q = absurd (p (q .0))
+one-shape t (ParentWrong k) Grown p q = absurd (omega (arith, q .smaller k (p .1) (p .2)))
+one-shape t (ParentWrong k) CountWrong p q = absurd (q (p .0))
+one-shape t (ParentWrong k) (ParentWrong m) p q = ap ParentWrong (go (decLt k m) (decLt m k))
+  where
+    go : Dec (k < m) → Dec (m < k) → k ≡ m
+    go (yes h) o = absurd (omega (arith, q .3 k (p .1) h))
+    go (no n) (yes h) = absurd (omega (arith, p .3 m (q .1) h))
+    go (no n) (no o) = omega arith

@@ -11,15 +11,11 @@ use lib.ListN.{length, getD, drop, length-drop}
 use Rattle.expression.specs.declared.Kind.{Kind}
 use Rattle.securon.specs.Iff.{not-then-false}
 use Rattle.expression.specs.Bytes.{MayOR, Finds}
+use Rattle.expression.specs.Scan.{nil-of}
 use Rattle.expression.specs.Heads.{Head}
 use Rattle.expression.proofs.Scanning.{At, from-length, at-start, at-operator, at-term, at-stuck, at-over, at-whole, at-short, finds-stopped}
 use Rattle.expression.proofs.scan.Statement.{statement}
 use Rattle.expression.proofs.scan.Tie as tie
-
--- a list of length 0 is none
-nil-of : (l : List ℕ) → length l ≡ 0 → l ≡ []
-nil-of [] e = refl
-nil-of (x ∷ l) e = absurd (omega arith)
 
 abbrev Inv-loop : tie.InvT-loop
 Inv-loop b n or d due₀ at₀ due at = (kind : Kind) → (or ≡ true) ↔ MayOR kind → At kind n d b due at

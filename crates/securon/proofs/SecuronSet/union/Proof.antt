@@ -1,22 +1,23 @@
 -- `securon::SecuronSet::union` meets its contract: the members of the other that were passed have been added. Assumes nothing.
-use mathlib.Core.Path.{_≡_}
+use mathlib.Core.Path.{_≡_, sym, _∙_}
+use mathlib.Core.Bool.{false≢true}
 use mathlib.Core.Logic.{⊎-elim}
 use Prim.Native.Nat.{ℕ, _≤_, _-_}
 use native.Mathlib.Omega.{arith}
 use borrow.Author.Needs.{needs}
 use lib.ListN.{length}
-use Rattle.securon.specs.Sets.{securons}
-use Rattle.securon.specs.Laws.{Joined, joined-none, joined-skip, joined-mark, joined-all}
+use Rattle.securon.specs.Sets.{securons, marked}
+use Rattle.securon.specs.Laws.{within, Joined, joined-none, joined-skip, joined-mark, joined-all}
 use Rattle.securon.proofs.SecuronSet.union.Statement.{statement}
 use Rattle.securon.proofs.SecuronSet.union.Tie as tie
 use Rattle.securon.proofs.SecuronSet.union.Reads as reads
 use Rattle.securon.proofs.SecuronSet.union.Lts as lts
 
 abbrev Inv-loop : tie.InvT-loop
-Inv-loop other r₀ k₀ r k = (k ≤ securons) × Joined (r₀ .has) (other .has) (r .has) k
+Inv-loop more r₀ k₀ r k = (k ≤ securons) × Joined (r₀ .has) (marked (more .has)) (r .has) k
 
 abbrev μ-loop : tie.MeasureT-loop
-μ-loop other r₀ k₀ r k = securons - k
+μ-loop more r₀ k₀ r k = securons - k
 
 -- src/lib.rt:74:9
 loop-holds : tie.Need-loop-holds Inv-loop μ-loop
@@ -43,13 +44,13 @@ loop-again : tie.Need-loop-again Inv-loop μ-loop
 loop-again c =
     let g : length (c .before .before .before .before .args .self .has) ≡ securons = search needs in
     let j = c .before .before .before .loop .inv .1 in
-    (omega arith, ⊎-elim (λ w. rw (w .1) (joined-mark j (omega arith) (w .0 .taken))) (λ w. rw (w .1) (joined-skip j (w .0 .left))) (c .if1 .came))
+    (omega arith, ⊎-elim (λ w. rw (w .1) (joined-mark j (omega arith) (w .0 .taken))) (λ w. rw (w .1) (joined-skip j (λ m. false≢true (sym (w .0 .left) ∙ m)))) (c .if1 .came))
 
 -- src/lib.rt:70:5
 returns : tie.Need-returns Inv-loop μ-loop
 returns c =
     let g : length (c .before .before .args .t2 .has) ≡ securons = search needs in
-    joined-all (c .before .loop .inv .1) (omega arith)
+    joined-all (c .before .loop .inv .1) (λ u m. omega (arith, within (c .before .before .args .t2 .has) u m))
 
 pub union-spec : {M : Type 1} → statement M
 union-spec =

@@ -8,8 +8,8 @@ use Rattle.securon.specs.Laws.{one-marked}
 use Rattle.securon.proofs.SecuronSet.with.Statement.{statement}
 use Rattle.securon.proofs.SecuronSet.with.Tie as tie
 
-cast-k : tie.Need-cast-k
-cast-k c = search needs
+cast-at : tie.Need-cast-at
+cast-at c = search needs
 
 element-write-r : tie.Need-element-write-r
 element-write-r c = search needs
@@ -18,4 +18,4 @@ returns : tie.Need-returns
 returns c = one-marked (c .before .args .self .has) (c .before .args .s .0) (let g : length (c .before .args .self .has) ≡ securons = search needs in omega arith)
 
 pub with-spec : {M : Type 1} → statement M
-with-spec = tie.close (tie.spec cast-k element-write-r returns)
+with-spec = tie.close (tie.spec cast-at element-write-r returns)
