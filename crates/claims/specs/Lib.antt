@@ -1,0 +1,5 @@
+pub mod Trace
+pub mod Exactly
+pub mod TraceLaws
+pub mod MoveLaws
+pub mod Demand3

@@ -1,0 +1,8 @@
+// stand-in
+use answer::Answer;
+use policy::State;
+
+pub struct Outcome {
+    pub answer: Answer,
+    pub state: State,
+}
