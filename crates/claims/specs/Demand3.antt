@@ -1,5 +1,5 @@
 -- Demand 3, in the user's words: "Over any sequence of requests after a granted load, with no later load and no bypass granted in it: every indelible part is still the loaded one; and if content could have moved from one file to another, any number of files long, nobody passes the indelible read conditions of the last without passing those of the first."
-use mathlib.Core.Path.{_≡_, refl, ap}
+use mathlib.Core.Path.{_≡_, ap, _∙_}
 use mathlib.Core.List.{List}
 use Prim.Native.Nat.{ℕ, _<_}
 use Rattle.answer.specs.declared.Answer.{Answer}
@@ -34,6 +34,14 @@ every-indelible-part-is-still-the-loaded-one w = let k = run-keeps (w .then) (w 
 pub record IndelibleSetsKept (loaded now : State) : Type 1 where
   pub e : (file mode : ℕ) → mode < modeCount → SET (now .tree) (eOf now file mode) ≡ SET (loaded .tree) (eOf loaded file mode)
   pub g : (file mode : ℕ) → mode < modeCount → SET (now .tree) (gOf now file mode) ≡ SET (loaded .tree) (gOf loaded file mode)
+
+pub and-so-is-its-set : {loaded now : State} {es : List Event} → AfterLoad loaded now es → IndelibleSetsKept loaded now
+and-so-is-its-set {loaded} {now} w =
+    let k = run-keeps (w .then) (w .quiet) in
+    record {
+      e = λ file mode h. ap (λ x. SET x (eOf now file mode)) (k .tree) ∙ ap (SET (loaded .tree)) (k .e file mode h);
+      g = λ file mode h. ap (λ x. SET x (gOf now file mode)) (k .tree) ∙ ap (SET (loaded .tree)) (k .g file mode h);
+    }
 
 -- "nobody passes the indelible read conditions of the last without passing those of the first": whoever has V+, V-, M1, M2, of a loaded role or not
 pub nobody-reads-the-last-without-the-first : {loaded now : State} {es : List Event} → AfterLoad loaded now es → {a b : ℕ} → Reached es a b

@@ -2,4 +2,5 @@ pub mod Trace
 pub mod Exactly
 pub mod TraceLaws
 pub mod MoveLaws
+pub mod Demand2
 pub mod Demand3

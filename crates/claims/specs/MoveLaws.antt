@@ -14,7 +14,8 @@ use Rattle.policy.specs.declared.State.{State}
 use Rattle.policy.specs.State.{read, write, holdOf, eOf, gOf, m1Of, m2Of, rolePart, m1Place, m2Place, offRole}
 use Rattle.gate.specs.Rules.{Mediates}
 use Rattle.gate.specs.Requests.{Session, Asks, askConditions}
-use Rattle.claims.specs.Exactly.{Refusals, granted-all}
+use Rattle.gate.specs.Lists.{granted-all}
+use Rattle.gate.specs.Laws.{one-role}
 use Rattle.claims.specs.Trace.{Request, ask, Step, Event, Run, none, next, Quiet, Grants, Move, ReachedBy, itself, moved, PassesIndelible}
 use Rattle.claims.specs.TraceLaws.{Kept, kept-then, step-keeps, run-keeps, run-holds, Split, run-split, quiet-split}
 
@@ -29,16 +30,9 @@ confines-itself s a = record { e = λ u m. m; g = λ u m. m }
 pub confines-then : {s : State} {a b c : ℕ} → Confines s a b → Confines s b c → Confines s a c
 confines-then p q = record { e = λ u m. q .e u (p .e u m); g = λ u m. q .g u (p .g u m) }
 
-by-one : {x y : ℕ} → By x ≡ By y → x ≡ y
-by-one e = cc
-
-ask-refusals : (s : State) (slot file mode : ℕ) → Refusals (askConditions s slot file mode)
-ask-refusals s slot file mode =
-    ((λ e. omega arith), ((λ e. omega arith), ((λ e. omega arith), ((λ e. omega arith), ((λ e. omega arith), ((λ e. omega arith), ((λ e. omega arith), tt)))))))
-
 -- a granted ask was mediated
 asked : (s : State) (slot file mode : ℕ) (a : Answer) → Asks s slot file mode a → Granted a → Session s slot (λ role. Mediates s role file mode)
-asked s slot file mode a d g = granted-all (λ k. k ≡ 0) a (askConditions s slot file mode) (ask-refusals s slot file mode) d g .0 .1 .1 .1 .1 .1 .1 .0
+asked s slot file mode a d g = granted-all (λ k. k ≡ 0) a (askConditions s slot file mode) refl d g .1 .1 .1 .1 .1 .1 .0
 
 -- the sets of a kept state are those of the state before
 module _ {s t : State} (k : Kept s t) where
@@ -95,9 +89,9 @@ move-confines {s} {t} {es} r q {a} {b} m =
     let writing = front (w3 .mid) t (m .writes) (m .later) (m .slot) b write (m .is-write) (w3 .second) in
     let before = kept-then (run-keeps (w1 .first) (q1 .0)) (run-keeps (w2 .first) (q2 .0)) in
     let still = run-holds (w3 .first) (q3 .0) (m .slot) (reading .session .role) (m .not-ended-between) (reading .session .held) in
-    let one-role = by-one (sym still ∙ writing .session .held) in
+    let same = one-role (w3 .mid) (m .slot) still (writing .session .held) in
     mediated s (w2 .mid) (w3 .mid) before (kept-then before (run-keeps (w3 .first) (q3 .0))) (reading .session .role) a b (reading .session .has)
-        (subst (λ (x : ℕ). Mediates (w3 .mid) x b write) (sym one-role) (writing .session .has))
+        (subst (λ (x : ℕ). Mediates (w3 .mid) x b write) (sym same) (writing .session .has))
 
 -- moves one after another
 pub reached-confines : {s t : State} {es : List Event} → Run s es t → Quiet es → {a k b : ℕ} → ReachedBy es a k b → Confines s a b

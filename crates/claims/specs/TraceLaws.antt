@@ -18,7 +18,7 @@ use Rattle.policy.specs.declared.State.{State}
 use Rattle.policy.specs.State.{modeCount, slotCount, holdOf, eOf, gOf, m1Of, m2Of, rolePart, m1Place, m2Place, offRole, withHold, withT1T2}
 use Rattle.policy.specs.Reads.{hold-there, Changed, t1t2-reads}
 use Rattle.gate.specs.Requests.{beginConditions, endConditions, changeConditions}
-use Rattle.claims.specs.Exactly.{Refusals, AllHold, granted-all}
+use Rattle.gate.specs.Lists.{granted-all}
 use Rattle.claims.specs.Trace.{Request, load, begin, end, ask, change, bypass, Step, Event, Run, none, next, Grants, Resets, Quiet, NoEnd}
 
 -- the tree, the roles and every indelible part of t are those of s
@@ -41,16 +41,6 @@ kept-then p q = record {
   e = λ f m h. q .e f m h ∙ p .e f m h;
   g = λ f m h. q .g f m h ∙ p .g f m h;
 }
-
-begin-refusals : (s : State) (slot role : ℕ) → Refusals (beginConditions s slot role)
-begin-refusals s slot role = ((λ e. omega arith), ((λ e. omega arith), ((λ e. omega arith), ((λ e. omega arith), tt))))
-
-end-refusals : (s : State) (slot : ℕ) → Refusals (endConditions s slot)
-end-refusals s slot = ((λ e. omega arith), ((λ e. omega arith), ((λ e. omega arith), tt)))
-
-change-refusals : (s : State) (slot file mode : ℕ) (x y : List ℕ) → Refusals (changeConditions s slot file mode x y)
-change-refusals s slot file mode x y =
-    ((λ e. omega arith), ((λ e. omega arith), ((λ e. omega arith), ((λ e. omega arith), ((λ e. omega arith), ((λ e. omega arith), ((λ e. omega arith), ((λ e. omega arith), tt))))))))
 
 pub free-by : {role : ℕ} → Free ≡ By role → ⊥
 free-by {role} e = let z : _≡_ {A = ℕ} 0 1 = cc in omega arith
@@ -75,7 +65,7 @@ module _ {s t : State} (a : Answer) where
     where
       stored : Granted a → Kept s (withT1T2 s file mode x y)
       stored g =
-          let w = granted-all (λ k. k ≡ 0) a (changeConditions s slot file mode x y) (change-refusals s slot file mode x y) (st .decides) g .0 in
+          let w = granted-all (λ k. k ≡ 0) a (changeConditions s slot file mode x y) refl (st .decides) g in
           let c = t1t2-reads s (w .0) file (w .1 .1 .1 .0) mode (w .1 .1 .1 .1 .0) x y (w .1 .1 .1 .1 .1 .1 .0 .2 .0) (w .1 .1 .1 .1 .1 .1 .1 .0 .2 .0) in
           record { tree = refl; roles = refl; e = c .e-all; g = c .g-all }
   step-keeps (bypass slot file mode x y) st quiet = kept-same (st .leaves .on-refusal (λ g. quiet g tt))
@@ -92,11 +82,11 @@ step-holds a s t (begin other r) st quiet slot role on h =
   where
     go : Granted a → Dec (slot ≡ other) → holdOf (withHold s other (By r)) slot ≡ By role
     go g (yes q) =
-        let w = granted-all (λ k. k ≡ 0) a (beginConditions s other r) (begin-refusals s other r) (st .decides) g .0 in
+        let w = granted-all (λ k. k ≡ 0) a (beginConditions s other r) refl (st .decides) g in
         let f : holdOf s slot ≡ Free = rw q (w .1 .1 .0) in
         absurd (free-by (sym f ∙ h))
     go g (no n) =
-        let w = granted-all (λ k. k ≡ 0) a (beginConditions s other r) (begin-refusals s other r) (st .decides) g .0 in
+        let w = granted-all (λ k. k ≡ 0) a (beginConditions s other r) refl (st .decides) g in
         hold-there s (w .0 .room) other (By r) slot n ∙ h
 step-holds a s t (end other) st quiet slot role on h =
     after a (λ x. holdOf x slot ≡ By role) (st .leaves .on-grant, st .leaves .on-refusal) (λ g. go g (ℕ-discrete slot other)) h
@@ -104,7 +94,7 @@ step-holds a s t (end other) st quiet slot role on h =
     go : Granted a → Dec (slot ≡ other) → holdOf (withHold s other Free) slot ≡ By role
     go g (yes q) = absurd (on g (ap end (sym q)))
     go g (no n) =
-        let w = granted-all (λ k. k ≡ 0) a (endConditions s other) (end-refusals s other) (st .decides) g .0 in
+        let w = granted-all (λ k. k ≡ 0) a (endConditions s other) refl (st .decides) g in
         hold-there s (w .0 .room) other Free slot n ∙ h
 step-holds a s t (ask x file mode) st quiet slot role on h = ap (λ (x : State). holdOf x slot) (st .1) ∙ h
 step-holds a s t (change x file mode p q) st quiet slot role on h = after a (λ x. holdOf x slot ≡ By role) (st .leaves .on-grant, st .leaves .on-refusal) (λ g. h) h

@@ -20,7 +20,7 @@ pub record PassesRow (t : Tree) (vPlus vMinus : Set) (t1 e t2 g : List ℕ) : Ty
 abbrev pub Passes : State → ℕ → ℕ → ℕ → Type 0
 Passes s role file mode =
     PassesRow (s .tree) (SET (s .tree) (vPlusOf s role mode)) (SET (s .tree) (vMinusOf s role mode))
-        (t1Of s file mode) (eOf s file mode) (t2Of s file mode) (gOf s file mode)
+    (t1Of s file mode) (eOf s file mode) (t2Of s file mode) (gOf s file mode)
 
 -- Read: E of that row within M1, G within M2. Write: M1 within E, M2 within G, of the file's Read row. The other modes ask nothing. Here e and g are those of the Read row
 pub record MediatesRow (mode : ℕ) (m1 m2 e g : Set) : Type 0 where
