@@ -12,7 +12,7 @@ ghost use mathlib.Core.Bool.{Bool, true, false};
 ghost use mathlib.Core.Logic.{_↔_};
 ghost use Prim.Native.Nat.{ℕ, _+_, _*_, _<_, _≤_};
 ghost use lib.ListN.{length, getD};
-ghost use Rattle.policy.specs.State.{modeCount, mostRoles, mostFiles, slotCount, rolePlaces, filePlaces, vPlusPlace, vMinusPlace, t1Place, ePlace, t2Place, gPlace, storedAt, offRole, offFile, roleAt, fileAt, holdOf, noRole, noFile, freshState, putBytes, putRole, putFile, putPair, withHold, withFile, withPair};
+ghost use Rattle.policy.specs.State.{modeCount, mostRoles, mostFiles, slotCount, rolePlaces, filePlaces, senses, parts, rolePlace, filePlace, storedAt, offRole, offFile, roleAt, fileAt, holdOf, noRole, noFile, freshState, putBytes, putRole, putFile, putPair, withHold, withFile, withPair};
 ghost use Rattle.expression.specs.Bytes.{longest, InOrder};
 ghost use Rattle.tree.specs.Tree.{IsTree};
 ghost use Rattle.policy.specs.WellFormed.{AllZero, Examines};
@@ -41,6 +41,10 @@ pub const CHANGE_PROTECTION: usize = 4;
 // A role's places: V+ and V- mode after mode, then M1, M2, B.
 pub const SENSES: usize = 2;
 
+pub const V_PLUS: usize = 0;
+
+pub const V_MINUS: usize = 1;
+
 pub const M1_PLACE: usize = SENSES * MODES;
 
 pub const M2_PLACE: usize = M1_PLACE + 1;
@@ -53,6 +57,14 @@ pub const ROLE_BYTES: usize = LONGEST * ROLE_PLACES;
 
 // A file's places: T1, E, T2, G mode after mode.
 pub const PARTS: usize = 4;
+
+pub const T1: usize = 0;
+
+pub const E: usize = 1;
+
+pub const T2: usize = 2;
+
+pub const G: usize = 3;
 
 pub const FILE_PLACES: usize = PARTS * MODES;
 
@@ -112,52 +124,20 @@ struct Files {
     file: File,
 }
 
-// The place of V+ of a mode.
-pub fn v_plus_place(mode: usize) -> usize
-    requires { ⌜ mode < modeCount ⌝ }
-    ensures { λ r. ⌜ r ≡ vPlusPlace mode ⌝ }
+// The place of V+ or V- of a mode.
+pub fn role_place(mode: usize, sense: usize) -> usize
+    requires { ⌜ (mode < modeCount) × (sense < senses) ⌝ }
+    ensures { λ r. ⌜ r ≡ rolePlace mode sense ⌝ }
 {
-    SENSES * mode
+    SENSES * mode + sense
 }
 
-// The place of V- of a mode.
-pub fn v_minus_place(mode: usize) -> usize
-    requires { ⌜ mode < modeCount ⌝ }
-    ensures { λ r. ⌜ r ≡ vMinusPlace mode ⌝ }
+// The place of T1, E, T2 or G of a mode.
+pub fn file_place(mode: usize, part: usize) -> usize
+    requires { ⌜ (mode < modeCount) × (part < parts) ⌝ }
+    ensures { λ r. ⌜ r ≡ filePlace mode part ⌝ }
 {
-    SENSES * mode + 1
-}
-
-// The place of T1 of a mode; that of T2 is two further on.
-pub fn t1_place(mode: usize) -> usize
-    requires { ⌜ mode < modeCount ⌝ }
-    ensures { λ r. ⌜ r ≡ t1Place mode ⌝ }
-{
-    PARTS * mode
-}
-
-// The place of E of a mode; that of G is two further on.
-pub fn e_place(mode: usize) -> usize
-    requires { ⌜ mode < modeCount ⌝ }
-    ensures { λ r. ⌜ r ≡ ePlace mode ⌝ }
-{
-    PARTS * mode + 1
-}
-
-// The place of T2 of a mode.
-pub fn t2_place(mode: usize) -> usize
-    requires { ⌜ mode < modeCount ⌝ }
-    ensures { λ r. ⌜ r ≡ t2Place mode ⌝ }
-{
-    PARTS * mode + 2
-}
-
-// The place of G of a mode.
-pub fn g_place(mode: usize) -> usize
-    requires { ⌜ mode < modeCount ⌝ }
-    ensures { λ r. ⌜ r ≡ gPlace mode ⌝ }
-{
-    PARTS * mode + 3
+    PARTS * mode + part
 }
 
 // Whether every byte is zero. A flag and no early return, so that the loop can be vectorised.
