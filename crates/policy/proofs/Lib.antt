@@ -3,3 +3,4 @@ pub mod Places
 pub mod Trees
 pub mod Test
 pub mod Copies
+pub mod Walks

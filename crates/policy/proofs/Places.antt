@@ -5,7 +5,7 @@ use mathlib.Core.List.{List}
 use mathlib.Core.Logic.{⊎-elim, _↔_}
 use Prim.Native.Nat.{ℕ, _+_, _*_, _-_, _<_, _≤_}
 use native.Mathlib.Omega.{arith}
-use lib.ListN.{getD, take, drop}
+use lib.ListN.{length, getD, take, drop}
 use Rattle.answer.specs.Laws.{no-fault}
 use Rattle.securon.specs.Iff.{and-iff, iff-trans}
 use Rattle.expression.specs.declared.Kind.{Kind}
@@ -45,12 +45,19 @@ module _ (kind : Kind) (n d : ℕ) (lens bytes : List ℕ) (k m : ℕ) (e : m �
       )
 
 -- a shelf that is used, and one that is not
-module _ {used : Bool} (file : Bool) (n d : ℕ) (lens bytes : List ℕ) where
-  pub shelf-used : used ≡ true → ShelfFine file n d lens bytes ↔ ShelfIs used file n d lens bytes
-  shelf-used u = ((λ w. record { fine = λ _. w; zero = λ e. absurd (false≢true (sym e ∙ u)) }), λ w. w .fine u)
+module _ {used : Bool} (file : Bool) (n d : ℕ) (lens bytes : List ℕ) (long : length bytes ≡ longest * length lens) where
+  pub shelf-used : used ≡ true → ShelfFine file n d lens bytes ↔ ShelfIs used file (length lens) n d lens bytes
+  shelf-used u = (
+    (λ w. record { room = record { lengths = refl; room = long }; fine = λ _. w; zero = λ e. absurd (false≢true (sym e ∙ u)) }),
+    λ w. w .fine u,
+  )
 
-  pub shelf-unused : used ≡ false → (AllZero lens × AllZero bytes) ↔ ShelfIs used file n d lens bytes
+  pub shelf-unused : used ≡ false → (AllZero lens × AllZero bytes) ↔ ShelfIs used file (length lens) n d lens bytes
   shelf-unused u = (
-    (λ w. record { fine = λ e. absurd (false≢true (sym u ∙ e)); zero = λ _. record { lengths = w .0; room = w .1 } }),
+    (λ w. record {
+      room = record { lengths = refl; room = long };
+      fine = λ e. absurd (false≢true (sym u ∙ e));
+      zero = λ _. record { lengths = w .0; room = w .1 };
+    }),
     λ w. (w .zero u .lengths, w .zero u .room),
   )

@@ -1,7 +1,7 @@
 -- Well formed, shelf by shelf, as the test goes: what each of its functions tells. A device of the proofs.
-use mathlib.Core.Path.{_≡_}
+use mathlib.Core.Path.{_≡_, refl}
 use mathlib.Core.Bool.{Bool, true, false, _&&_}
-use mathlib.Core.List.{List}
+use mathlib.Core.List.{List, []}
 use mathlib.Core.Logic.{_↔_}
 use Prim.Native.Nat.{ℕ, _<_, _≤_, _%_}
 use lib.Dec.{eqb, ltb}
@@ -16,7 +16,7 @@ use Rattle.policy.specs.declared.File.{File}
 use Rattle.policy.specs.declared.Hold.the-variants.{By}
 use Rattle.policy.specs.declared.Slot.{Slot}
 use Rattle.policy.specs.declared.State.{State}
-use Rattle.policy.specs.declared.Examined.{Examined}
+use Rattle.policy.specs.declared.Grown.{Grown}
 use Rattle.policy.specs.State.{mostRoles, mostFiles, slotCount, rolePlaces, filePlaces, roomPast, offRole, offFile, freeSlot}
 use Rattle.policy.specs.WellFormed.{HasPlaces, PartInOrder, AllZero, ZeroShelf}
 
@@ -37,29 +37,39 @@ pub record PlaceFine (kind : Kind) (n d : ℕ) (lens bytes : List ℕ) (k : ℕ)
 abbrev pub ShelfFine : Bool → ℕ → ℕ → List ℕ → List ℕ → Type 0
 ShelfFine file n d lens bytes = (k : ℕ) → k < length lens → PlaceFine (kindAt file k) n d lens bytes k
 
--- a shelf that is used is fine; one that is not is zero
-pub record ShelfIs (used file : Bool) (n d : ℕ) (lens bytes : List ℕ) : Type 0 where
+-- a shelf with its room: one that is used is fine, one that is not is zero
+pub record ShelfIs (used file : Bool) (places n d : ℕ) (lens bytes : List ℕ) : Type 0 where
+  pub room : HasPlaces places lens bytes
   pub fine : used ≡ true → ShelfFine file n d lens bytes
   pub zero : used ≡ false → ZeroShelf lens bytes
 
--- a role or a file, with its room
-pub record RoleIs (used : Bool) (n d : ℕ) (r : Role) : Type 0 where
-  pub places : HasPlaces rolePlaces (r .lens) (r .bytes)
-  pub shelf : ShelfIs used false n d (r .lens) (r .bytes)
+-- what roles and files have in common: shelves of so many places, so many of them, and nothing past the last
+pub record Shelving (X : Type 0) : Type 0 where
+  pub lensOf : X → List ℕ
+  pub bytesOf : X → List ℕ
+  pub off : X
+  pub nothing : ZeroShelf (lensOf off) (bytesOf off)
+  pub file : Bool
+  pub places : ℕ
+  pub most : ℕ
 
-pub record FileIs (used : Bool) (n d : ℕ) (f : File) : Type 0 where
-  pub places : HasPlaces filePlaces (f .lens) (f .bytes)
-  pub shelf : ShelfIs used true n d (f .lens) (f .bytes)
+pub nil-zero : ZeroShelf [] []
+nil-zero = record { lengths = λ i. refl; room = λ i. refl }
 
--- all roles: those below the count are used, the others zero
-pub record RolesAre (count n d : ℕ) (roles : List Role) : Type 0 where
-  pub room : length roles ≡ mostRoles
-  pub each : (i : ℕ) → i < mostRoles → RoleIs (ltb i count) n d (getD roles i offRole)
+abbrev pub roleShelves : Shelving Role
+roleShelves = record { lensOf = λ r. r .lens; bytesOf = λ r. r .bytes; off = offRole; nothing = nil-zero; file = false; places = rolePlaces; most = mostRoles }
 
--- and all files
-pub record FilesAre (count n d : ℕ) (files : List File) : Type 0 where
-  pub room : length files ≡ mostFiles
-  pub each : (i : ℕ) → i < mostFiles → FileIs (ltb i count) n d (getD files i offFile)
+abbrev pub fileShelves : Shelving File
+fileShelves = record { lensOf = λ f. f .lens; bytesOf = λ f. f .bytes; off = offFile; nothing = nil-zero; file = true; places = filePlaces; most = mostFiles }
+
+-- one of them
+abbrev pub OneIs : {X : Type 0} → Shelving X → Bool → ℕ → ℕ → X → Type 0
+OneIs k used n d x = ShelfIs used (k .file) (k .places) n d (k .lensOf x) (k .bytesOf x)
+
+-- all of them: those below the count are used
+pub record AllAre {X : Type 0} (k : Shelving X) (count n d : ℕ) (xs : List X) : Type 0 where
+  pub room : length xs ≡ k .most
+  pub each : (i : ℕ) → i < k .most → OneIs k (ltb i count) n d (getD xs i (k .off))
 
 -- a role that the slot holds is below the count
 abbrev pub SlotIs : ℕ → Slot → Type 0
@@ -76,7 +86,8 @@ pub record TreeFine (t : Tree) : Type 0 where
   pub root : getD (t .parent) 0 0 ≡ 0
   pub past : (u : ℕ) → t .n ≤ u → getD (t .parent) u 0 ≡ 0
 
-pub record TreeExamined (t : Tree) (r : Examined) : Type 0 where
+-- what the test of a tree tells
+pub record TreeExamined (t : Tree) (r : Grown) : Type 0 where
   pub says : (r .ok ≡ true) ↔ TreeFine t
   pub levels : r .ok ≡ true → LevelsOf t (r .levels)
 
@@ -85,6 +96,6 @@ pub record StateFine (s : State) (d : ℕ) : Type 0 where
   pub tree : TreeFine (s .tree)
   pub role-count : s .nroles ≤ mostRoles
   pub file-count : s .nfiles ≤ mostFiles
-  pub roles : RolesAre (s .nroles) (s .tree .n) d (s .roles)
-  pub files : FilesAre (s .nfiles) (s .tree .n) d (s .files)
+  pub roles : AllAre roleShelves (s .nroles) (s .tree .n) d (s .roles)
+  pub files : AllAre fileShelves (s .nfiles) (s .tree .n) d (s .files)
   pub slots : SlotsAre (s .nroles) (s .slots)

@@ -3,6 +3,7 @@ use mathlib.Core.Path.{_≡_, refl, sym, ap, _∙_, subst}
 use mathlib.Core.List.{List}
 use Prim.Native.Nat.{ℕ, zero, suc, _*_, _<_, _≤_}
 use native.Mathlib.Omega.{arith}
+use borrow.Author.Tests.{ltb-true}
 use lib.Dec.{ltb}
 use lib.ListN.{length, getD, replicate, length-replicate, getD-replicate}
 use Rattle.securon.specs.Sets.{securons}
@@ -15,8 +16,8 @@ use Rattle.policy.specs.declared.Hold.the-variants.{By}
 use Rattle.policy.specs.declared.Slot.{Slot}
 use Rattle.policy.specs.State.{mostRoles, mostFiles, slotCount, rolePlaces, filePlaces, offRole, offFile, freeSlot, noRole, noFile, rootAlone, freshState}
 use Rattle.policy.specs.WellFormed.{HasPlaces, ZeroShelf, WellFormed}
-use Rattle.policy.specs.Fine.{RoleIs, FileIs, SlotIs}
-use Rattle.policy.specs.Whole.{shelf-is, free-held, fine-well-formed}
+use Rattle.policy.specs.Fine.{SlotIs, Shelving, roleShelves, fileShelves, OneIs, AllAre}
+use Rattle.policy.specs.Whole.{free-held, fine-well-formed}
 
 -- zero, however many
 zeros-at : (n i : ℕ) → _≡_ {A = ℕ} (getD (replicate n 0) i 0) 0
@@ -30,6 +31,17 @@ zero-places places = record { lengths = length-replicate {A = ℕ} places 0; roo
 
 pub zero-shelf : (places : ℕ) → ZeroShelf (replicate places 0) (replicate (longest * places) 0)
 zero-shelf places = record { lengths = zeros-at places; room = zeros-at (longest * places) }
+
+-- none is used, and all are zero
+all-zero : {X : Type 0} (k : Shelving X) (n d : ℕ) (x : X) → HasPlaces (k .places) (k .lensOf x) (k .bytesOf x) → ZeroShelf (k .lensOf x) (k .bytesOf x) → AllAre k 0 n d (replicate (k .most) x)
+all-zero k n d x room none = record {
+  room = length-replicate (k .most) x;
+  each = λ i h. subst (OneIs k (ltb i 0) n d) (sym (getD-replicate (k .most) i x (k .off) h)) (record {
+    room = room;
+    fine = λ e. absurd (omega (arith, ltb-true i 0 e));
+    zero = λ _. none;
+  });
+}
 
 -- the root alone has depth 0
 pub root-depth : IsDepth rootAlone 0
@@ -48,14 +60,8 @@ fresh-well-formed = fine-well-formed freshState 0 root-depth (record {
   };
   role-count = omega arith;
   file-count = omega arith;
-  roles = record {
-    room = length-replicate mostRoles noRole;
-    each = λ i h. subst (RoleIs (ltb i 0) 1 0) (sym (getD-replicate mostRoles i noRole offRole h)) (record { places = zero-places rolePlaces; shelf = shelf-is {i = i} {count = 0} (λ l. absurd (omega arith)) (λ _. zero-shelf rolePlaces) });
-  };
-  files = record {
-    room = length-replicate mostFiles noFile;
-    each = λ i h. subst (FileIs (ltb i 0) 1 0) (sym (getD-replicate mostFiles i noFile offFile h)) (record { places = zero-places filePlaces; shelf = shelf-is {i = i} {count = 0} (λ l. absurd (omega arith)) (λ _. zero-shelf filePlaces) });
-  };
+  roles = all-zero roleShelves 1 0 noRole (zero-places rolePlaces) (zero-shelf rolePlaces);
+  files = all-zero fileShelves 1 0 noFile (zero-places filePlaces) (zero-shelf filePlaces);
   slots = record {
     room = length-replicate slotCount freeSlot;
     each = λ i h. subst (SlotIs 0) (sym (getD-replicate slotCount i freeSlot freeSlot h)) (λ r e. absurd (free-held e));

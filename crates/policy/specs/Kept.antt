@@ -20,10 +20,10 @@ use Rattle.policy.specs.declared.Slot.{Slot}
 use Rattle.policy.specs.declared.State.{State}
 use Rattle.policy.specs.State.{mostFiles, slotCount, modeCount, filePlaces, offFile, freeSlot, fileAt, holdOf, putBytes, putFile, putPair, withHold, withFile, withPair, withT1T2, withEG, t1Place, t2Place, ePlace, gPlace}
 use Rattle.policy.specs.WellFormed.{HasPlaces, AllZero, WellFormed}
-use Rattle.policy.specs.Fine.{kindAt, PlaceFine, ShelfFine, ShelfIs, FileIs, StateFine}
+use Rattle.policy.specs.Fine.{kindAt, PlaceFine, ShelfFine}
 use Rattle.policy.specs.Parts.{even-kind, odd-kind}
 use Rattle.policy.specs.Shelves.{put-length, stored-put, past-put, stored-other, past-other}
-use Rattle.policy.specs.Whole.{free-held, used-fine, fine-well-formed, well-formed-fine}
+use Rattle.policy.specs.Whole.{free-held, all-used, all-set, fine-well-formed, well-formed-fine}
 
 -- x is put at place k of a shelf
 module _ {places : ℕ} {lens bytes : List ℕ} (p : HasPlaces places lens bytes) (k : ℕ) (h : k < places) (x : List ℕ) (hx : length x ≤ longest) where
@@ -113,47 +113,21 @@ module _ (s : State) (w : WellFormed s) where
   free-kept i l = hold-kept i l Free (λ q e. absurd (free-held e))
 
   module _ (d : ℕ) (deep : IsDepth (s .tree) d) (file : ℕ) (present : file < s .nfiles) where
-    was : FileIs true (s .tree .n) d (fileAt s file)
-    was =
-        let it = well-formed-fine s d deep w .files .each file (omega (arith, w .file-count)) in
-        record { places = it .places; shelf = record { fine = λ _. used-fine (it .shelf) present; zero = λ e. absurd (true≢false e) } }
-
-    -- a present file is replaced by one that is fine
-    file-kept : (f : File) → FileIs true (s .tree .n) d f → WellFormed (withFile s file f)
-    file-kept f is =
+    -- two expressions are stored that are in order for the kinds of their places
+    pub pair-kept : (k : ℕ) (x y : List ℕ) → k + 2 < filePlaces → InOrder (kindAt true k) (s .tree .n) d x → InOrder (kindAt true (k + 2)) (s .tree .n) d y → WellFormed (withPair s file k x y)
+    pair-kept k x y h o q =
         let all = well-formed-fine s d deep w in
-        fine-well-formed (withFile s file f) d deep (record {
+        let room = w .room .file-places file (omega (arith, w .file-count)) in
+        let first = put-places room k (omega arith) x (o .0) in
+        let fine = put-fine room k (omega arith) x (o .0) true _ _ (λ j l. all-used (all .files) file j present (omega (arith, w .file-count)) (omega (arith, room .lengths))) o in
+        fine-well-formed (withPair s file k x y) d deep (record {
           tree = all .tree;
           role-count = all .role-count;
           file-count = all .file-count;
           roles = all .roles;
-          files = record { room = length-set (s .files) file f ∙ all .files .room; each = λ i l. go i l (ℕ-discrete i file) };
+          files = all-set (all .files) file present (omega (arith, w .file-count)) (putPair (fileAt s file) k x y) (put-places first (k + 2) h y (q .0)) (put-fine first (k + 2) h y (q .0) true _ _ fine q);
           slots = all .slots;
         })
-      where
-        go : (i : ℕ) → i < mostFiles → Dec (i ≡ file) → FileIs (ltb i (s .nfiles)) (s .tree .n) d (getD (set (s .files) file f) i offFile)
-        go i l (yes e) =
-            let here : getD (set (s .files) file f) i offFile ≡ f = ap (λ (j : ℕ). getD (set (s .files) file f) j offFile) e ∙ getD-set-same (s .files) file f offFile (omega (arith, w .room .files, w .file-count)) in
-            let used : ltb i (s .nfiles) ≡ true = lt-ltb i (s .nfiles) (omega arith) in
-            subst (λ (x : File). FileIs (ltb i (s .nfiles)) (s .tree .n) d x) (sym here) (subst (λ (b : Bool). FileIs b (s .tree .n) d f) (sym used) is)
-        go i l (no m) =
-            subst (λ (x : File). FileIs (ltb i (s .nfiles)) (s .tree .n) d x) (sym (getD-set-other (s .files) file i f offFile m)) (well-formed-fine s d deep w .files .each i l)
-
-    -- two expressions are stored that are in order for the kinds of their places
-    pub pair-kept : (k : ℕ) (x y : List ℕ) → k + 2 < filePlaces → InOrder (kindAt true k) (s .tree .n) d x → InOrder (kindAt true (k + 2)) (s .tree .n) d y → WellFormed (withPair s file k x y)
-    pair-kept k x y h o q = file-kept (putPair (fileAt s file) k x y) (record {
-      places = second;
-      shelf = record {
-        fine = λ _. put-fine first (k + 2) h y (q .0) true _ _ (put-fine (was .places) k (omega arith) x (o .0) true _ _ (was .shelf .fine refl) o) q;
-        zero = λ e. absurd (true≢false e);
-      };
-    })
-      where
-        first : HasPlaces filePlaces (putFile (fileAt s file) k x .lens) (putFile (fileAt s file) k x .bytes)
-        first = put-places (was .places) k (omega arith) x (o .0)
-
-        second : HasPlaces filePlaces (putPair (fileAt s file) k x y .lens) (putPair (fileAt s file) k x y .bytes)
-        second = put-places first (k + 2) h y (q .0)
 
     module _ (mode : ℕ) (few : mode < modeCount) (x y : List ℕ) where
       -- change: T1 and T2 are stored

@@ -100,9 +100,10 @@ module _ (s : State) (w : WellFormed s) (file : ℕ) (present : file < s .nfiles
   pub t1t2-reads : Changed s (withT1T2 s file mode x y) file mode x y
   t1t2-reads =
       let else = pair-else s w file present (t1Place mode) (omega arith) x y hx hy in
+      let two : t1Place mode + 2 ≡ t2Place mode = omega arith in
       record {
         t1-here = pair-first s w file present (t1Place mode) (omega arith) x y hx hy;
-        t2-here = pair-second s w file present (t1Place mode) (omega arith) x y hx hy;
+        t2-here = ap (λ (k : ℕ). filePart (fileAt (withT1T2 s file mode x y) file) k) (sym two) ∙ pair-second s w file present (t1Place mode) (omega arith) x y hx hy;
         t1-else = λ i m h n. else i (t1Place m) (omega arith) (other n (λ e. omega arith) (λ e. omega arith));
         t2-else = λ i m h n. else i (t2Place m) (omega arith) (other n (λ e. omega arith) (λ e. omega arith));
         e-all = λ i m h. else i (ePlace m) (omega arith) (λ _. ((λ e. omega arith), λ e. omega arith));

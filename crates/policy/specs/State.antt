@@ -45,11 +45,14 @@ changeProtection = 4
 abbrev pub senses : ℕ
 senses = 2
 
+abbrev pub rolePlace : ℕ → ℕ → ℕ
+rolePlace mode sense = senses * mode + sense
+
 abbrev pub vPlusPlace : ℕ → ℕ
-vPlusPlace mode = senses * mode
+vPlusPlace mode = rolePlace mode 0
 
 abbrev pub vMinusPlace : ℕ → ℕ
-vMinusPlace mode = senses * mode + 1
+vMinusPlace mode = rolePlace mode 1
 
 abbrev pub m1Place : ℕ
 m1Place = senses * modeCount
@@ -64,23 +67,26 @@ abbrev pub rolePlaces : ℕ
 rolePlaces = m1Place + 3
 
 -- the places of a file's expressions: mode after mode, T1, E, T2, G
-abbrev pub rowParts : ℕ
-rowParts = 4
+abbrev pub parts : ℕ
+parts = 4
+
+abbrev pub filePlace : ℕ → ℕ → ℕ
+filePlace mode part = parts * mode + part
 
 abbrev pub t1Place : ℕ → ℕ
-t1Place mode = rowParts * mode
+t1Place mode = filePlace mode 0
 
 abbrev pub ePlace : ℕ → ℕ
-ePlace mode = rowParts * mode + 1
+ePlace mode = filePlace mode 1
 
 abbrev pub t2Place : ℕ → ℕ
-t2Place mode = rowParts * mode + 2
+t2Place mode = filePlace mode 2
 
 abbrev pub gPlace : ℕ → ℕ
-gPlace mode = rowParts * mode + 3
+gPlace mode = filePlace mode 3
 
 abbrev pub filePlaces : ℕ
-filePlaces = rowParts * modeCount
+filePlaces = parts * modeCount
 
 -- the expression at place k of a shelf: as many bytes as its length says, from 48 k on
 abbrev pub storedAt : List ℕ → List ℕ → ℕ → List ℕ

@@ -84,7 +84,9 @@ pub record WellFormed (s : State) : Type 0 where
   -- unused room zero
   pub unused-zero : UnusedZero s
 
--- what the test of a state tells: whether it is well formed, and if so the levels of its securons
-pub record Examines (s : State) (r : Examined) : Type 0 where
+-- what the test of a state tells: whether it is well formed, and if so the levels of its securons, and the role and the file that are asked for
+pub record Examines (s : State) (role file : ℕ) (r : Examined) : Type 0 where
   pub says : (r .ok ≡ true) ↔ WellFormed s
   pub levels : r .ok ≡ true → LevelsOf (s .tree) (r .levels)
+  pub role-is : r .ok ≡ true → role < mostRoles → r .role ≡ roleAt s role
+  pub file-is : r .ok ≡ true → file < mostFiles → r .file ≡ fileAt s file

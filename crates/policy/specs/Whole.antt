@@ -1,45 +1,63 @@
 -- A state is well formed exactly if it is fine part by part. Assumes nothing.
-use mathlib.Core.Path.{_≡_, refl, sym, ap, _∙_, subst}
-use mathlib.Core.Bool.{Bool, true, false}
-use mathlib.Core.List.{List, []}
-use mathlib.Core.Logic.{_↔_}
+use mathlib.Core.Path.{_≡_, sym, ap, _∙_, subst}
+use mathlib.Core.Bool.{Bool, true}
+use mathlib.Core.List.{List}
 use Prim.Native.Nat.{ℕ, _<_, _≤_}
-use native.Mathlib.Decide.{decLt}
+use native.Mathlib.Decide.{decLt, ℕ-discrete}
 use native.Mathlib.Omega.{arith}
 use borrow.Author.Tests.{ltb-true, ltb-false, lt-ltb, le-ltb}
 use lib.Dec.{ltb}
-use lib.ListN.{length, getD, List·getD-eq-default}
+use lib.ListN.{length, getD, set, length-set, List·getD-eq-default}
+use lib.Seq.{getD-set-same, getD-set-other}
 use Rattle.tree.specs.Tree.{IsDepth}
-use Rattle.expression.specs.declared.Kind.the-variants.{Privilege}
-use Rattle.policy.specs.declared.Role.{Role}
-use Rattle.policy.specs.declared.File.{File}
-use Rattle.policy.specs.declared.Hold.{Hold}
+use Rattle.expression.specs.declared.Kind.{Kind}
 use Rattle.policy.specs.declared.Hold.the-variants.{Free, By}
 use Rattle.policy.specs.declared.Slot.{Slot}
 use Rattle.policy.specs.declared.State.{State}
-use Rattle.policy.specs.State.{mostRoles, mostFiles, slotCount, rolePlaces, filePlaces, offRole, offFile, freeSlot, roleAt, fileAt, holdOf}
-use Rattle.policy.specs.WellFormed.{PartInOrder, ZeroShelf, WellFormed}
-use Rattle.policy.specs.Fine.{kindAt, PlaceFine, ShelfFine, ShelfIs, RoleIs, FileIs, StateFine}
+use Rattle.policy.specs.State.{slotCount, freeSlot, holdOf}
+use Rattle.policy.specs.WellFormed.{HasPlaces, PartInOrder, ZeroShelf, WellFormed}
+use Rattle.policy.specs.Fine.{kindAt, PlaceFine, ShelfFine, Shelving, roleShelves, fileShelves, OneIs, AllAre, StateFine}
 use Rattle.policy.specs.Parts.{one-depth, role-by-place, role-by-name, file-by-place, file-by-name}
-
--- the shelf of number i, where those below the count are used
-module _ {i count : ℕ} {file : Bool} {n d : ℕ} {lens bytes : List ℕ} where
-  pub used-fine : ShelfIs (ltb i count) file n d lens bytes → i < count → ShelfFine file n d lens bytes
-  used-fine s h = s .fine (lt-ltb i count h)
-
-  pub unused-zero : ShelfIs (ltb i count) file n d lens bytes → count ≤ i → ZeroShelf lens bytes
-  unused-zero s h = s .zero (le-ltb i count h)
-
-  pub shelf-is : (i < count → ShelfFine file n d lens bytes) → (count ≤ i → ZeroShelf lens bytes) → ShelfIs (ltb i count) file n d lens bytes
-  shelf-is f z = record { fine = λ e. f (ltb-true i count e); zero = λ e. z (ltb-false i count e) }
 
 -- a free slot holds no role
 pub free-held : {r : ℕ} → Free ≡ By r → ⊥
 free-held e = let z : _≡_ {A = ℕ} 0 1 = cc in omega arith
 
--- past the last there is nothing
-nothing : ZeroShelf [] []
-nothing = record { lengths = λ i. refl; room = λ i. refl }
+-- roles or files, those below the count used
+module _ {X : Type 0} {k : Shelving X} {count n d : ℕ} {xs : List X} where
+  pub all-used : AllAre k count n d xs → (i j : ℕ) → i < count → i < k .most → j < k .places → PlaceFine (kindAt (k .file) j) n d (k .lensOf (getD xs i (k .off))) (k .bytesOf (getD xs i (k .off))) j
+  all-used a i j h m l = let it = a .each i m in it .fine (lt-ltb i count h) j (omega (arith, it .room .lengths))
+
+  pub all-unused : AllAre k count n d xs → (i : ℕ) → count ≤ i → ZeroShelf (k .lensOf (getD xs i (k .off))) (k .bytesOf (getD xs i (k .off)))
+  all-unused a i h = go (decLt i (k .most))
+    where
+      go : Dec (i < k .most) → ZeroShelf (k .lensOf (getD xs i (k .off))) (k .bytesOf (getD xs i (k .off)))
+      go (yes l) = a .each i l .zero (le-ltb i count h)
+      go (no m) =
+          subst (λ (x : X). ZeroShelf (k .lensOf x) (k .bytesOf x)) (sym (List·getD-eq-default xs (k .off) {n = i} (omega (arith, a .room)))) (k .nothing)
+
+  pub all-are : length xs ≡ k .most → ((i : ℕ) → i < k .most → HasPlaces (k .places) (k .lensOf (getD xs i (k .off))) (k .bytesOf (getD xs i (k .off)))) → ((i j : ℕ) → i < count → j < k .places → PlaceFine (kindAt (k .file) j) n d (k .lensOf (getD xs i (k .off))) (k .bytesOf (getD xs i (k .off))) j) → ((i : ℕ) → count ≤ i → ZeroShelf (k .lensOf (getD xs i (k .off))) (k .bytesOf (getD xs i (k .off)))) → AllAre k count n d xs
+  all-are long room fine zero = record {
+    room = long;
+    each = λ i h. record {
+      room = room i h;
+      fine = λ e j l. fine i j (ltb-true i count e) (omega (arith, room i h .lengths));
+      zero = λ e. zero i (ltb-false i count e);
+    };
+  }
+
+  -- one that is used is replaced by one that is fine
+  pub all-set : AllAre k count n d xs → (i : ℕ) → i < count → i < k .most → (x : X) → HasPlaces (k .places) (k .lensOf x) (k .bytesOf x) → ShelfFine (k .file) n d (k .lensOf x) (k .bytesOf x) → AllAre k count n d (set xs i x)
+  all-set a i h m x room fine = record {
+    room = length-set xs i x ∙ a .room;
+    each = λ j l. go j l (ℕ-discrete j i);
+  }
+    where
+      go : (j : ℕ) → j < k .most → Dec (j ≡ i) → OneIs k (ltb j count) n d (getD (set xs i x) j (k .off))
+      go j l (yes e) =
+          let here : getD (set xs i x) j (k .off) ≡ x = ap (λ (q : ℕ). getD (set xs i x) q (k .off)) e ∙ getD-set-same xs i x (k .off) (omega (arith, a .room)) in
+          subst (OneIs k (ltb j count) n d) (sym here) (record { room = room; fine = λ _. fine; zero = λ q. absurd (omega (arith, ltb-false j count q)) })
+      go j l (no q) = subst (OneIs k (ltb j count) n d) (sym (getD-set-other xs i j x (k .off) q)) (a .each j l)
 
 module _ (s : State) (d : ℕ) (deep : IsDepth (s .tree) d) where
   pub fine-well-formed : StateFine s d → WellFormed s
@@ -47,9 +65,9 @@ module _ (s : State) (d : ℕ) (deep : IsDepth (s .tree) d) where
     room = record {
       parents = f .tree .room;
       roles = f .roles .room;
-      role-places = λ i h. f .roles .each i h .places;
+      role-places = λ i h. f .roles .each i h .room;
       files = f .files .room;
-      file-places = λ i h. f .files .each i h .places;
+      file-places = λ i h. f .files .each i h .room;
       slots = f .slots .room;
     };
     tree = f .tree .is-tree;
@@ -57,39 +75,19 @@ module _ (s : State) (d : ℕ) (deep : IsDepth (s .tree) d) where
     file-count = f .file-count;
     depth = d;
     is-depth = deep;
-    roles-in-order = λ i h. role-by-name (λ k l. role i k h l .part);
-    files-in-order = λ i h. file-by-name (λ k l. file i k h l .part);
+    roles-in-order = λ i h. role-by-name (λ k l. all-used (f .roles) i k h (omega arith) l .part);
+    files-in-order = λ i h. file-by-name (λ k l. all-used (f .files) i k h (omega arith) l .part);
     held-present = λ i r e. held i r e (decLt i slotCount);
     unused-zero = record {
       root = f .tree .root;
       parents = f .tree .past;
-      role-bytes = λ i k h l. role i k h l .past;
-      roles = λ i h. past-role i h (decLt i mostRoles);
-      file-bytes = λ i k h l. file i k h l .past;
-      files = λ i h. past-file i h (decLt i mostFiles);
+      role-bytes = λ i k h l. all-used (f .roles) i k h (omega arith) l .past;
+      roles = all-unused (f .roles);
+      file-bytes = λ i k h l. all-used (f .files) i k h (omega arith) l .past;
+      files = all-unused (f .files);
     };
   }
     where
-      role : (i k : ℕ) → i < s .nroles → k < rolePlaces → PlaceFine Privilege (s .tree .n) d (roleAt s i .lens) (roleAt s i .bytes) k
-      role i k h l =
-          let it = f .roles .each i (omega arith) in
-          used-fine (it .shelf) h k (omega (arith, it .places .lengths))
-
-      file : (i k : ℕ) → i < s .nfiles → k < filePlaces → PlaceFine (kindAt true k) (s .tree .n) d (fileAt s i .lens) (fileAt s i .bytes) k
-      file i k h l =
-          let it = f .files .each i (omega arith) in
-          used-fine (it .shelf) h k (omega (arith, it .places .lengths))
-
-      past-role : (i : ℕ) → s .nroles ≤ i → Dec (i < mostRoles) → ZeroShelf (roleAt s i .lens) (roleAt s i .bytes)
-      past-role i h (yes l) = unused-zero (f .roles .each i l .shelf) h
-      past-role i h (no n) =
-          subst (λ (r : Role). ZeroShelf (r .lens) (r .bytes)) (sym (List·getD-eq-default (s .roles) offRole {n = i} (omega (arith, f .roles .room)))) nothing
-
-      past-file : (i : ℕ) → s .nfiles ≤ i → Dec (i < mostFiles) → ZeroShelf (fileAt s i .lens) (fileAt s i .bytes)
-      past-file i h (yes l) = unused-zero (f .files .each i l .shelf) h
-      past-file i h (no n) =
-          subst (λ (x : File). ZeroShelf (x .lens) (x .bytes)) (sym (List·getD-eq-default (s .files) offFile {n = i} (omega (arith, f .files .room)))) nothing
-
       held : (i r : ℕ) → holdOf s i ≡ By r → Dec (i < slotCount) → r < s .nroles
       held i r e (yes l) = f .slots .each i l r e
       held i r e (no n) =
@@ -101,36 +99,11 @@ module _ (s : State) (d : ℕ) (deep : IsDepth (s .tree) d) where
     tree = record { room = w .room .parents; is-tree = w .tree; root = w .unused-zero .root; past = w .unused-zero .parents };
     role-count = w .role-count;
     file-count = w .file-count;
-    roles = record { room = w .room .roles; each = role };
-    files = record { room = w .room .files; each = file };
+    roles = all-are (w .room .roles) (w .room .role-places) (λ i j h l. record { part = deeper (role-by-place (w .roles-in-order i h) j l); past = w .unused-zero .role-bytes i j h l }) (w .unused-zero .roles);
+    files = all-are (w .room .files) (w .room .file-places) (λ i j h l. record { part = deeper (file-by-place (w .files-in-order i h) j l); past = w .unused-zero .file-bytes i j h l }) (w .unused-zero .files);
     slots = record { room = w .room .slots; each = λ i h r e. w .held-present i r e };
   }
     where
-      same : w .depth ≡ d
-      same = one-depth (w .is-depth) deep
-
-      role : (i : ℕ) → i < mostRoles → RoleIs (ltb i (s .nroles)) (s .tree .n) d (roleAt s i)
-      role i h =
-          let places = w .room .role-places i h in
-          record {
-            places = places;
-            shelf = shelf-is
-                (λ l k g. record {
-                  part = subst (λ (x : ℕ). PartInOrder Privilege (s .tree .n) x (roleAt s i .lens) (roleAt s i .bytes) k) same (role-by-place (w .roles-in-order i l) k (omega (arith, places .lengths)));
-                  past = w .unused-zero .role-bytes i k l (omega (arith, places .lengths));
-                })
-                (w .unused-zero .roles i);
-          }
-
-      file : (i : ℕ) → i < mostFiles → FileIs (ltb i (s .nfiles)) (s .tree .n) d (fileAt s i)
-      file i h =
-          let places = w .room .file-places i h in
-          record {
-            places = places;
-            shelf = shelf-is
-                (λ l k g. record {
-                  part = subst (λ (x : ℕ). PartInOrder (kindAt true k) (s .tree .n) x (fileAt s i .lens) (fileAt s i .bytes) k) same (file-by-place (w .files-in-order i l) k (omega (arith, places .lengths)));
-                  past = w .unused-zero .file-bytes i k l (omega (arith, places .lengths));
-                })
-                (w .unused-zero .files i);
-          }
+      -- a tree has one depth
+      deeper : {kind : Kind} {n k : ℕ} {lens bytes : List ℕ} → PartInOrder kind n (w .depth) lens bytes k → PartInOrder kind n d lens bytes k
+      deeper {kind} {n} {k} {lens} {bytes} p = subst (λ (x : ℕ). PartInOrder kind n x lens bytes k) (one-depth (w .is-depth) deep) p

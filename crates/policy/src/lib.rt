@@ -12,11 +12,11 @@ ghost use mathlib.Core.Bool.{Bool, true, false};
 ghost use mathlib.Core.Logic.{_↔_};
 ghost use Prim.Native.Nat.{ℕ, _+_, _*_, _<_, _≤_};
 ghost use lib.ListN.{length, getD};
-ghost use Rattle.policy.specs.State.{modeCount, mostRoles, mostFiles, slotCount, rolePlaces, filePlaces, vPlusPlace, vMinusPlace, t1Place, ePlace, t2Place, gPlace, storedAt, roleAt, fileAt, holdOf, freshState, putBytes, putRole, putFile, putPair, withHold, withFile, withPair};
+ghost use Rattle.policy.specs.State.{modeCount, mostRoles, mostFiles, slotCount, rolePlaces, filePlaces, senses, parts, rolePlace, filePlace, storedAt, offRole, offFile, roleAt, fileAt, holdOf, noRole, noFile, freshState, putBytes, putRole, putFile, putPair, withHold, withFile, withPair};
 ghost use Rattle.expression.specs.Bytes.{longest, InOrder};
 ghost use Rattle.tree.specs.Tree.{IsTree};
 ghost use Rattle.policy.specs.WellFormed.{AllZero, Examines};
-ghost use Rattle.policy.specs.Fine.{kindAt, PlaceFine, ShelfFine, ShelfIs, RoleIs, FileIs, RolesAre, FilesAre, SlotIs, SlotsAre, TreeFine, TreeExamined};
+ghost use Rattle.policy.specs.Fine.{kindAt, PlaceFine, ShelfFine, ShelfIs, roleShelves, fileShelves, OneIs, AllAre, SlotIs, SlotsAre, TreeFine, TreeExamined};
 
 // The most roles and the most files; the slots.
 pub const ROLES: usize = 32;
@@ -41,6 +41,10 @@ pub const CHANGE_PROTECTION: usize = 4;
 // A role's places: V+ and V- mode after mode, then M1, M2, B.
 pub const SENSES: usize = 2;
 
+pub const V_PLUS: usize = 0;
+
+pub const V_MINUS: usize = 1;
+
 pub const M1_PLACE: usize = SENSES * MODES;
 
 pub const M2_PLACE: usize = M1_PLACE + 1;
@@ -53,6 +57,14 @@ pub const ROLE_BYTES: usize = LONGEST * ROLE_PLACES;
 
 // A file's places: T1, E, T2, G mode after mode.
 pub const PARTS: usize = 4;
+
+pub const T1: usize = 0;
+
+pub const E: usize = 1;
+
+pub const T2: usize = 2;
+
+pub const G: usize = 3;
 
 pub const FILE_PLACES: usize = PARTS * MODES;
 
@@ -88,58 +100,44 @@ pub struct State {
     pub slots: [Slot; SLOTS],
 }
 
-// What the test of a state finds: whether it is well formed, and if so the levels of its securons.
+// What the test of a state finds: whether it is well formed, and if so the levels of its securons, and the role and the file that were asked for.
 pub struct Examined {
     pub ok: bool,
     pub levels: Levels,
+    pub role: Role,
+    pub file: File,
 }
 
-// The place of V+ of a mode.
-pub fn v_plus_place(mode: usize) -> usize
-    requires { ⌜ mode < modeCount ⌝ }
-    ensures { λ r. ⌜ r ≡ vPlusPlace mode ⌝ }
-{
-    SENSES * mode
+// What the tests of the tree, the roles and the files find.
+struct Grown {
+    ok: bool,
+    levels: Levels,
 }
 
-// The place of V- of a mode.
-pub fn v_minus_place(mode: usize) -> usize
-    requires { ⌜ mode < modeCount ⌝ }
-    ensures { λ r. ⌜ r ≡ vMinusPlace mode ⌝ }
-{
-    SENSES * mode + 1
+struct Roles {
+    ok: bool,
+    role: Role,
 }
 
-// The place of T1 of a mode; that of T2 is two further on.
-pub fn t1_place(mode: usize) -> usize
-    requires { ⌜ mode < modeCount ⌝ }
-    ensures { λ r. ⌜ r ≡ t1Place mode ⌝ }
-{
-    PARTS * mode
+struct Files {
+    ok: bool,
+    file: File,
 }
 
-// The place of E of a mode; that of G is two further on.
-pub fn e_place(mode: usize) -> usize
-    requires { ⌜ mode < modeCount ⌝ }
-    ensures { λ r. ⌜ r ≡ ePlace mode ⌝ }
+// The place of V+ or V- of a mode.
+pub fn role_place(mode: usize, sense: usize) -> usize
+    requires { ⌜ (mode < modeCount) × (sense < senses) ⌝ }
+    ensures { λ r. ⌜ r ≡ rolePlace mode sense ⌝ }
 {
-    PARTS * mode + 1
+    SENSES * mode + sense
 }
 
-// The place of T2 of a mode.
-pub fn t2_place(mode: usize) -> usize
-    requires { ⌜ mode < modeCount ⌝ }
-    ensures { λ r. ⌜ r ≡ t2Place mode ⌝ }
+// The place of T1, E, T2 or G of a mode.
+pub fn file_place(mode: usize, part: usize) -> usize
+    requires { ⌜ (mode < modeCount) × (part < parts) ⌝ }
+    ensures { λ r. ⌜ r ≡ filePlace mode part ⌝ }
 {
-    PARTS * mode + 2
-}
-
-// The place of G of a mode.
-pub fn g_place(mode: usize) -> usize
-    requires { ⌜ mode < modeCount ⌝ }
-    ensures { λ r. ⌜ r ≡ gPlace mode ⌝ }
-{
-    PARTS * mode + 3
+    PARTS * mode + part
 }
 
 // Whether every byte is zero. A flag and no early return, so that the loop can be vectorised.
@@ -226,7 +224,7 @@ fn shelf_is<'a>(
     bytes: &'a [u8],
 ) -> bool
     requires { ⌜ (0 < n) × (length (now bytes) ≡ longest * length (now lens)) ⌝ }
-    ensures { λ r. ⌜ (r ≡ true) ↔ ShelfIs used file n (depth .0) (now (lens .entry)) (now (bytes .entry)) ⌝ }
+    ensures { λ r. ⌜ (r ≡ true) ↔ ShelfIs used file (length (now (lens .entry))) n (depth .0) (now (lens .entry)) (now (bytes .entry)) ⌝ }
 {
     if used {
         return shelf_fine(file, n, depth, lens, bytes);
@@ -236,42 +234,57 @@ fn shelf_is<'a>(
 
 fn role_is(r: Role, used: bool, n: usize, depth: Level) -> bool
     requires { ⌜ 0 < n ⌝ }
-    ensures { λ x. ⌜ (x ≡ true) ↔ RoleIs used n (depth .0) r ⌝ }
+    ensures { λ x. ⌜ (x ≡ true) ↔ OneIs roleShelves used n (depth .0) r ⌝ }
 {
     shelf_is(used, false, n, depth, &r.lens, &r.bytes)
 }
 
 fn file_is(f: File, used: bool, n: usize, depth: Level) -> bool
     requires { ⌜ 0 < n ⌝ }
-    ensures { λ x. ⌜ (x ≡ true) ↔ FileIs used n (depth .0) f ⌝ }
+    ensures { λ x. ⌜ (x ≡ true) ↔ OneIs fileShelves used n (depth .0) f ⌝ }
 {
     shelf_is(used, true, n, depth, &f.lens, &f.bytes)
 }
 
-// The roles below the count are fine, the others zero.
-fn roles_are(roles: [Role; ROLES], count: usize, n: usize, depth: Level) -> bool
+// A number below `most`: the one that is asked for, where it is one.
+fn below(want: usize, most: usize) -> usize
+    requires { ⌜ 0 < most ⌝ }
+    ensures { λ r. ⌜ (r < most) × (want < most → r ≡ want) ⌝ }
+{
+    if want < most {
+        return want;
+    }
+    0
+}
+
+// The roles below the count are fine, the others zero; and the role that is asked for.
+fn roles_are(roles: [Role; ROLES], count: usize, n: usize, depth: Level, want: usize) -> Roles
     requires { ⌜ 0 < n ⌝ }
-    ensures { λ x. ⌜ (x ≡ true) ↔ RolesAre count n (depth .0) roles ⌝ }
+    ensures { λ x. ⌜ ((x .ok ≡ true) ↔ AllAre roleShelves count n (depth .0) roles) × (want < mostRoles → x .role ≡ getD roles want offRole) ⌝ }
 {
     let mut ok = true;
     for i in 0..ROLES {
         let r = roles[i];
         ok = ok & role_is(r, i < count, n, depth);
     }
-    ok
+    let at = below(want, ROLES);
+    let role = roles[at];
+    Roles { ok, role }
 }
 
-// The files below the count are fine, the others zero.
-fn files_are(files: [File; FILES], count: usize, n: usize, depth: Level) -> bool
+// The files below the count are fine, the others zero; and the file that is asked for.
+fn files_are(files: [File; FILES], count: usize, n: usize, depth: Level, want: usize) -> Files
     requires { ⌜ 0 < n ⌝ }
-    ensures { λ x. ⌜ (x ≡ true) ↔ FilesAre count n (depth .0) files ⌝ }
+    ensures { λ x. ⌜ ((x .ok ≡ true) ↔ AllAre fileShelves count n (depth .0) files) × (want < mostFiles → x .file ≡ getD files want offFile) ⌝ }
 {
     let mut ok = true;
     for i in 0..FILES {
         let f = files[i];
         ok = ok & file_is(f, i < count, n, depth);
     }
-    ok
+    let at = below(want, FILES);
+    let file = files[at];
+    Files { ok, file }
 }
 
 // A role that a slot holds is below the count.
@@ -320,18 +333,37 @@ fn tree_fine(tree: Tree) -> bool
 }
 
 // The same, with the levels of a tree that is fine.
-fn examine_tree(tree: Tree) -> Examined
+fn examine_tree(tree: Tree) -> Grown
     ensures { λ r. ⌜ TreeExamined tree r ⌝ }
 {
     if tree_fine(tree) {
         let levels = tree.levels();
-        return Examined { ok: true, levels };
+        return Grown { ok: true, levels };
     }
     let levels = Levels {
         of: [0u8; SECURONS],
         depth: Level(0),
     };
-    Examined { ok: false, levels }
+    Grown { ok: false, levels }
+}
+
+// No role, no file: zero.
+fn no_role() -> Role
+    ensures { λ r. ⌜ r ≡ noRole ⌝ }
+{
+    Role {
+        lens: [0u8; ROLE_PLACES],
+        bytes: [0u8; ROLE_BYTES],
+    }
+}
+
+fn no_file() -> File
+    ensures { λ r. ⌜ r ≡ noFile ⌝ }
+{
+    File {
+        lens: [0u8; FILE_PLACES],
+        bytes: [0u8; FILE_BYTES],
+    }
 }
 
 // The expression at place k of a shelf: a part of its bytes.
@@ -411,14 +443,8 @@ impl State {
             n: 1,
             parent: [0u8; SECURONS],
         };
-        let role = Role {
-            lens: [0u8; ROLE_PLACES],
-            bytes: [0u8; ROLE_BYTES],
-        };
-        let file = File {
-            lens: [0u8; FILE_PLACES],
-            bytes: [0u8; FILE_BYTES],
-        };
+        let role = no_role();
+        let file = no_file();
         let slot = Slot { hold: Hold::Free };
         State {
             tree,
@@ -430,16 +456,23 @@ impl State {
         }
     }
 
-    // Whether the state is well formed, and if so the levels of its securons, so that a request has them but once.
-    pub fn well_formed(self) -> Examined
-        ensures { λ r. ⌜ Examines self r ⌝ }
+    // Whether the state is well formed; and if so the levels of its securons, and the role and the file that a request names, so that a request has each but once.
+    pub fn well_formed(self, role: usize, file: usize) -> Examined
+        ensures { λ r. ⌜ Examines self role file r ⌝ }
     {
         let tree = self.tree;
         let grown = examine_tree(tree);
-        if !grown.ok {
-            return grown;
-        }
         let levels = grown.levels;
+        if !grown.ok {
+            let none = no_role();
+            let nothing = no_file();
+            return Examined {
+                ok: false,
+                levels,
+                role: none,
+                file: nothing,
+            };
+        }
         let depth = levels.depth;
         let n = tree.n;
         let nroles = self.nroles;
@@ -447,11 +480,18 @@ impl State {
         let roles = self.roles;
         let files = self.files;
         let slots = self.slots;
-        let mut ok = (nroles <= ROLES) & (nfiles <= FILES);
-        ok = ok & roles_are(roles, nroles, n, depth);
-        ok = ok & files_are(files, nfiles, n, depth);
-        ok = ok & slots_are(slots, nroles);
-        Examined { ok, levels }
+        let walked = roles_are(roles, nroles, n, depth, role);
+        let passed = files_are(files, nfiles, n, depth, file);
+        let held = slots_are(slots, nroles);
+        let counts = (nroles <= ROLES) & (nfiles <= FILES);
+        let mine = walked.role;
+        let its = passed.file;
+        Examined {
+            ok: counts & walked.ok & passed.ok & held,
+            levels,
+            role: mine,
+            file: its,
+        }
     }
 
     // Role i.

@@ -9,7 +9,9 @@ shelf-fine-requires : tie.Need-shelf-fine-requires
 shelf-fine-requires c κs = search needs
 
 returns : tie.Need-returns
-returns c = iff-trans (c .shelf-fine .ensures) (shelf-used _ _ _ _ _ (c .before .if1 .taken))
+returns c =
+    let long = c .before .before .before .before .pre .1 in
+    iff-trans (c .shelf-fine .ensures) (shelf-used _ _ _ _ _ long (c .before .if1 .taken))
 
 all-zero-requires : tie.Need-all-zero-requires
 all-zero-requires c κs = search needs
@@ -18,7 +20,9 @@ all-zero-requires-2 : tie.Need-all-zero-requires-2
 all-zero-requires-2 c κs = search needs
 
 returns-2 : tie.Need-returns-2
-returns-2 c = iff-trans (and-iff _ _ (c .before .all-zero .ensures) (c .all-zero2 .ensures)) (shelf-unused _ _ _ _ _ (c .before .before .if1 .left))
+returns-2 c =
+    let long = c .before .before .before .before .before .pre .1 in
+    iff-trans (and-iff _ _ (c .before .all-zero .ensures) (c .all-zero2 .ensures)) (shelf-unused _ _ _ _ _ long (c .before .before .if1 .left))
 
 pub shelf-is-spec : {M : Type 1} → statement M
 shelf-is-spec =

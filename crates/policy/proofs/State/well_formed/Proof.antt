@@ -8,28 +8,35 @@ use Rattle.policy.proofs.State.well_formed.Tie as tie
 examine-tree-requires : tie.Need-examine-tree-requires
 examine-tree-requires c κs = search needs
 
+no-role-requires : tie.Need-no-role-requires
+no-role-requires c κs = search needs
+
+no-file-requires : tie.Need-no-file-requires
+no-file-requires c κs = search needs
+
 returns : tie.Need-returns
-returns c = ill _ _ (c .before .before .examine-tree .ensures) (not-true _ (c .if1 .taken))
+returns c = ill _ _ _ _ (c .before .before .before .before .before .examine-tree .ensures) (not-true _ (c .before .before .if1 .taken)) _ _
 
 roles-are-requires : tie.Need-roles-are-requires
-roles-are-requires c κs = c .before .before .before .before .before .before .before .examine-tree .ensures .says .0 (not-false _ (c .before .before .before .before .before .if1 .left)) .is-tree .count .0
+roles-are-requires c κs = c .before .before .before .before .before .before .before .examine-tree .ensures .says .0 (not-false _ (c .before .before .before .before .if1 .left)) .is-tree .count .0
 
 files-are-requires : tie.Need-files-are-requires
-files-are-requires c κs = c .before .before .before .before .before .before .before .before .examine-tree .ensures .says .0 (not-false _ (c .before .before .before .before .before .before .if1 .left)) .is-tree .count .0
+files-are-requires c κs = c .before .before .before .before .before .before .before .before .examine-tree .ensures .says .0 (not-false _ (c .before .before .before .before .before .if1 .left)) .is-tree .count .0
 
 slots-are-requires : tie.Need-slots-are-requires
 slots-are-requires c κs = search needs
 
 returns-2 : tie.Need-returns-2
 returns-2 c =
-    let tree = c .before .before .before .before .before .before .before .before .before .before .examine-tree .ensures in
-    examined _ _ tree (not-false _ (c .before .before .before .before .before .before .before .before .if1 .left)) (c .before .before .roles-are .ensures) (c .before .files-are .ensures) (c .slots-are .ensures)
+    examined _ _ _ _ (c .before .before .before .before .before .before .before .before .before .before .before .before .before .before .examine-tree .ensures) (not-false _ (c .before .before .before .before .before .before .before .before .before .before .before .if1 .left)) (c .before .before .before .before .before .before .roles-are .ensures) (c .before .before .before .before .before .files-are .ensures) (c .before .before .before .before .slots-are .ensures)
 
 pub well-formed-spec : {M : Type 1} → statement M
 well-formed-spec =
     tie.close
     (tie.spec
     examine-tree-requires
+    no-role-requires
+    no-file-requires
     returns
     roles-are-requires
     files-are-requires
