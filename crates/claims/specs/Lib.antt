@@ -4,3 +4,4 @@ pub mod TraceLaws
 pub mod MoveLaws
 pub mod Demand2
 pub mod Demand3
+pub mod Builders
