@@ -1,5 +1,6 @@
 -- Small policies, made from the fresh state step by step; each step keeps a well-formed state well formed. For worked examples. Assumes nothing.
 use mathlib.Core.Path.{_≡_, refl, sym, ap, _∙_, subst}
+use mathlib.Core.Bool.{false}
 use mathlib.Core.List.{List, []}
 use mathlib.Core.Logic.{_⊎_, inl, inr}
 use Prim.Native.Nat.{ℕ, _+_, _*_, _-_, _<_, _≤_}
@@ -9,6 +10,7 @@ use native.Mathlib.Omega.{arith}
 use borrow.Author.Needs.{zero≤}
 use lib.ListN.{length, getD, take, drop, set, length-set, length-take, List·getD-eq-default}
 use lib.Seq.{getD-set-same, getD-set-other, getD-take, getD-drop}
+use Rattle.tree.specs.Tree.{IsDepth}
 use Rattle.expression.specs.declared.Kind.{Kind}
 use Rattle.expression.specs.declared.Kind.the-variants.{Privilege}
 use Rattle.expression.specs.Bytes.{longest, InOrder}
@@ -17,6 +19,8 @@ use Rattle.policy.specs.declared.File.{File}
 use Rattle.policy.specs.declared.State.{State}
 use Rattle.policy.specs.State.{mostRoles, mostFiles, rolePlaces, filePlaces, storedAt, roomPast, roleAt, fileAt, setNroles, setNfiles, withRole, putRole, offRole}
 use Rattle.policy.specs.WellFormed.{HasRoom, HasPlaces, PartInOrder, RoleInOrder, FileInOrder, AllZero, ZeroShelf, UnusedZero, WellFormed}
+use Rattle.policy.specs.Whole.{all-used, all-set, fine-well-formed, well-formed-fine}
+use Rattle.policy.specs.Kept.{put-places, put-fine}
 
 -- a length that is 0 makes an empty part, which is in order for every kind
 take-none : (m : ℕ) (l : List ℕ) → m ≡ 0 → take m l ≡ []
@@ -112,3 +116,17 @@ module _ (s : State) (w : WellFormed s) where
           files = λ i l. z .files i (omega arith);
         };
       }
+
+  -- an expression that is in order is stored in a role
+  pub role-stored : (d : ℕ) → IsDepth (s .tree) d → (role : ℕ) → role < s .nroles → (k : ℕ) → k < rolePlaces → (x : List ℕ) → InOrder Privilege (s .tree .n) d x → WellFormed (withRole s role (putRole (roleAt s role) k x))
+  role-stored d deep role present k h x o =
+      let all = well-formed-fine s d deep w in
+      let room = w .room .role-places role (omega (arith, w .role-count)) in
+      fine-well-formed (withRole s role (putRole (roleAt s role) k x)) d deep (record {
+        tree = all .tree;
+        role-count = all .role-count;
+        file-count = all .file-count;
+        roles = all-set (all .roles) role present (omega (arith, w .role-count)) (putRole (roleAt s role) k x) (put-places room k h x (o .0)) (put-fine room k h x (o .0) false _ _ (λ j l. all-used (all .roles) role j present (omega (arith, w .role-count)) (omega (arith, room .lengths))) o);
+        files = all .files;
+        slots = all .slots;
+      })
