@@ -5,3 +5,4 @@ pub mod MoveLaws
 pub mod Demand2
 pub mod Demand3
 pub mod Builders
+pub mod Sample
