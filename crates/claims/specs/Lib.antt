@@ -6,3 +6,5 @@ pub mod Demand2
 pub mod Demand3
 pub mod Builders
 pub mod Sample
+pub mod Steps
+pub mod Examples

@@ -6,14 +6,16 @@ use Prim.Native.Nat.{ℕ}
 use lib.Dec.{lit<, lit≤}
 use Rattle.securon.specs.Sets.{Set, _⊆_, Apart}
 use Rattle.tree.specs.declared.Tree.{Tree}
+use Rattle.tree.specs.Tree.{IsDepth}
 use Rattle.expression.specs.declared.Kind.{Kind}
 use Rattle.expression.specs.Expression.{one, Expr, term, privilegeSET}
 use Rattle.expression.specs.Bytes.{bytes, InOrder, SET, MeetsT1, MeetsT2}
 use Rattle.expression.specs.Laws.{meets-term}
 use Rattle.expression.specs.Scan.{bytes-some}
 use Rattle.expression.specs.Unique.{one-expression}
+use Rattle.policy.specs.declared.Hold.the-variants.{Free, By}
 use Rattle.policy.specs.declared.State.{State}
-use Rattle.policy.specs.State.{read, write, changeProtection, vPlusPlace, m1Place, bPlace, roleAt, freshState, setNroles, setNfiles, withRole, putRole, putBytes, padded, withT1T2, withEG, vPlusOf, vMinusOf, m1Of, m2Of, bOf, t1Of, eOf, t2Of, gOf}
+use Rattle.policy.specs.State.{read, write, changeProtection, vPlusPlace, m1Place, bPlace, roleAt, freshState, setNroles, setNfiles, withRole, putRole, putBytes, padded, withT1T2, withEG, withHold, holdOf, vPlusOf, vMinusOf, m1Of, m2Of, bOf, t1Of, eOf, t2Of, gOf}
 use Rattle.policy.specs.WellFormed.{WellFormed}
 use Rattle.policy.specs.Fresh.{root-depth, fresh-well-formed}
 use Rattle.policy.specs.Kept.{t1t2-kept, eg-kept}
@@ -94,6 +96,23 @@ unfolding withRoles role0 role0M1 role0B role2 file0 file1 sample
 sample-well-formed = t1t2-kept file1 file1-well 0 root-depth 3 (lit< tt) read (lit< tt) root [] (in-order _) (none-in-order _)
 
 -- ---- its parts, computed
+pub sample-depth : IsDepth (sample .tree) 0
+unfolding withRoles role0 role0M1 role0B role2 file0 file1 sample
+sample-depth = root-depth
+
+pub sample-free : holdOf sample 0 ≡ Free
+unfolding withRoles role0 role0M1 role0B role2 file0 file1 sample
+sample-free = refl
+
+pub sample-counts : (sample .nroles ≡ 3) × (sample .nfiles ≡ 4)
+unfolding withRoles role0 role0M1 role0B role2 file0 file1 sample
+sample-counts = (refl, refl)
+
+-- a slot that was held and ended is free again, and then held by another
+pub freed-again : (x y : ℕ) → withHold (withHold (withHold sample 0 (By x)) 0 Free) 0 (By y) ≡ withHold sample 0 (By y)
+unfolding withRoles role0 role0M1 role0B role2 file0 file1 sample
+freed-again x y = refl
+
 pub record RoleParts (s : State) (role : ℕ) (reading mediating bypassing : List ℕ) : Type 0 where
   pub v-plus : vPlusOf s role read ≡ reading
   pub v-minus : vMinusOf s role read ≡ []
