@@ -8,3 +8,4 @@ pub mod Builders
 pub mod Sample
 pub mod Steps
 pub mod Examples
+pub mod Sound
