@@ -9,3 +9,4 @@ pub mod Sample
 pub mod Steps
 pub mod Examples
 pub mod Sound
+pub mod Empty
