@@ -10,3 +10,5 @@ pub mod Steps
 pub mod Examples
 pub mod Sound
 pub mod Empty
+pub mod Starred
+pub mod StarredLaws
