@@ -1,0 +1,27 @@
+-- What the functions that write say to each other.
+use mathlib.Core.Path.{_≡_}
+use mathlib.Core.List.{List, [], _∷_, _++_}
+use Prim.Native.Nat.{ℕ, _+_, _≤_}
+use lib.ListN.{length, take, drop}
+use Rattle.lines.specs.Lines.{Decimal, Held}
+
+-- w was written at the place at, up to r
+pub record Written (before : List ℕ) (at : ℕ) (w after : List ℕ) (r : ℕ) : Type 0 where
+  pub next : r ≡ at + length w
+  pub is : take r after ≡ take at before ++ w
+  pub rest : drop r after ≡ drop r before
+  pub long : length after ≡ length before
+
+-- n was written in decimal
+pub record Counted (before : List ℕ) (at n : ℕ) (after : List ℕ) (r : ℕ) : Type 0 where
+  pub d : List ℕ
+  pub decimal : Decimal n d
+  pub short : length d ≤ 20
+  pub written : Written before at d after r
+
+-- x was added to the line, or the line was full
+pub record Keeps (n : ℕ) (before : List ℕ) (x r : ℕ) (after : List ℕ) : Type 0 where
+  pub held : (w : List ℕ) → Held n before w → Held r after (w ++ (x ∷ []))
+  pub on : n ≤ r
+  pub rest : drop r after ≡ drop r before
+  pub long : length after ≡ length before

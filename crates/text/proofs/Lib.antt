@@ -1,0 +1,5 @@
+-- What the proofs of several functions use.
+mod Shelf
+mod Laws
+mod Levels
+mod Answering

@@ -1,0 +1,25 @@
+-- `dots` meets its contract. Assumes nothing.
+use native.Mathlib.Omega.{arith}
+use Rattle.text.proofs.Laws.{stands-in}
+use Rattle.text.proofs.Levels.{dots-on, dots-not}
+use borrow.Author.Needs.{needs}
+use Rattle.text.proofs.dots.Statement.{statement}
+use Rattle.text.proofs.dots.Tie as tie
+
+stands-requires : tie.Need-stands-requires
+stands-requires c κs = search needs
+
+add-r : tie.Need-add-r
+add-r c = search needs
+
+sign-requires : tie.Need-sign-requires
+sign-requires c κs = let h = stands-in (c .before .before .before .before .args .s .now) (c .before .before .before .before .args .g) _ _ (c .before .before .stands .ensures) (c .before .if1 .taken) in omega arith
+
+returns : tie.Need-returns
+returns c = dots-on _ _ (c .before .before .before .before .before .pre) _ (c .before .before .before .stands .ensures) (c .before .before .if1 .taken) _ (c .sign .ensures)
+
+returns-2 : tie.Need-returns-2
+returns-2 c = dots-not _ _ (c .before .before .before .pre) _ (c .before .stands .ensures) (c .if1 .left)
+
+pub dots-spec : {M : Type 1} → statement M
+dots-spec = tie.close (tie.spec stands-requires add-r sign-requires returns returns-2)

@@ -1,0 +1,32 @@
+-- `grows` meets its contract. Assumes nothing.
+use mathlib.Core.Path.{sym, _∙_}
+use Rattle.text.proofs.Laws.{grows-is, grows-zero, grows-not}
+use borrow.Author.Needs.{needs}
+use Rattle.text.proofs.grows.Statement.{statement}
+use Rattle.text.proofs.grows.Tie as tie
+
+is-class-requires : tie.Need-is-class-requires
+is-class-requires c κs = search needs
+
+mul-result : tie.Need-mul-result
+mul-result c = search needs
+
+digit-requires : tie.Need-digit-requires
+digit-requires c κs = sym (c .before .before .is-class .ensures) ∙ c .before .if1 .taken
+
+add-result : tie.Need-add-result
+add-result c = search needs
+
+returns : tie.Need-returns
+returns c = grows-is (c .before .before .before .before .before .args .s .now) (c .before .before .before .before .before .args .at) (c .before .before .before .before .before .args .n) (sym (c .before .before .before .is-class .ensures) ∙ c .before .before .if1 .taken) (c .before .if2 .taken) _ (c .digit .ensures)
+
+returns-2 : tie.Need-returns-2
+returns-2 c = grows-zero (c .before .before .before .before .args .s .now) (c .before .before .before .before .args .at) (c .before .before .before .before .args .n) (c .if2 .left)
+
+returns-3 : tie.Need-returns-3
+returns-3 c = grows-not (c .before .before .before .args .s .now) (c .before .before .before .args .at) (c .before .before .before .args .n) (sym (c .before .is-class .ensures) ∙ c .if1 .left)
+
+pub grows-spec : {M : Type 1} → statement M
+grows-spec =
+    tie.close
+    (tie.spec is-class-requires mul-result digit-requires add-result returns returns-2 returns-3)

@@ -1,0 +1,11 @@
+pub mod Classes
+pub mod Text
+pub mod Scan
+pub mod Numbers
+pub mod Complete
+pub mod Sound
+pub mod Place
+pub mod Kept
+pub mod Reader
+pub mod Turn
+pub mod Laws

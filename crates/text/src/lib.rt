@@ -1,0 +1,325 @@
+// Text turned into bytes (01, "In text").
+ghost use mathlib.Core.Path.{_≡_};
+ghost use mathlib.Core.Bool.{true, false};
+ghost use Prim.Native.Nat.{_≤_, _<_, _+_};
+ghost use mathlib.Core.List.{_++_};
+ghost use lib.ListN.{length, take, drop};
+ghost use Rattle.answer.specs.Answers.{Decides, Leaves};
+ghost use Rattle.text.specs.Turn.{textConditions, textGrants, textMakes};
+ghost use Rattle.text.specs.Kept.{Moved};
+ghost use Rattle.text.specs.Reader.{classAt, standsAt, growsAt, Skipped, Digit, Counts, Good, Puts, Inserts, Signed, Dotted, Numbered, Ranged, Item, Ands, Ors, Whole};
+
+mod classes;
+
+use crate::classes::AMP;
+use crate::classes::BAR;
+use crate::classes::DIGIT;
+use crate::classes::DOT;
+use crate::classes::LBRA;
+use crate::classes::LPAR;
+use crate::classes::RBRA;
+use crate::classes::RPAR;
+use crate::classes::SPACE;
+use crate::classes::class;
+use answer::Answer;
+
+// The most bytes that a text has, and that it may make.
+const LONGEST_TEXT: usize = 512;
+
+const LONGEST: usize = 48;
+
+// All numbers are below it: they have one or two digits.
+const BELOW: usize = 100;
+
+// How far a text is read. ok: up to `at`, with `made` bytes made, 49 for more than 48, and the bytes kept while they fit. Not ok: at fault at `at`.
+struct Reading {
+    ok: bool,
+    at: usize,
+    made: usize,
+    bytes: [u8; 48],
+}
+
+// A number and the place after its digits.
+struct Count {
+    n: u8,
+    at: usize,
+}
+
+// Whether a byte of class c stands at the place `at`.
+fn is_class(s: &[u8], at: usize, c: u8) -> bool
+    ensures { λ r. ⌜ r ≡ classAt (now (s .entry)) at c ⌝ }
+{
+    if at < s.len() {
+        class(s[at]) == c
+    } else {
+        false
+    }
+}
+
+// Whether the text is read so far and goes on with a byte of class c.
+fn stands(s: &[u8], g: Reading, c: u8) -> bool
+    ensures { λ r. ⌜ r ≡ standsAt (now (s .entry)) g c ⌝ }
+{
+    if g.ok { is_class(s, g.at, c) } else { false }
+}
+
+// The place after the spaces at `at`.
+fn skip(s: &[u8], at: usize) -> usize
+    requires { ⌜ at ≤ length (now s) ⌝ }
+    ensures { λ r. ⌜ Skipped (now (s .entry)) at r ⌝ }
+{
+    let mut p = at;
+    while is_class(s, p, SPACE) {
+        p += 1;
+    }
+    p
+}
+
+// What the digit at `at` counts.
+fn digit(s: &[u8], at: usize) -> usize
+    requires { ⌜ classAt (now s) at 0 ≡ true ⌝ }
+    ensures { λ r. ⌜ Digit (now (s .entry)) at r ⌝ }
+{
+    wide(s[at]) - 48
+}
+
+fn wide(x: u8) -> usize
+    ensures { λ r. ⌜ r ≡ x ⌝ }
+{
+    x as usize
+}
+
+// Whether a digit at `at` makes a longer number of n: no leading zero, at most two digits.
+fn grows(s: &[u8], at: usize, n: usize) -> bool
+    requires { ⌜ n < 100 ⌝ }
+    ensures { λ r. ⌜ r ≡ growsAt (now (s .entry)) at n ⌝ }
+{
+    if is_class(s, at, DIGIT) {
+        if 0 < n {
+            return 10 * n + digit(s, at) < BELOW;
+        }
+    }
+    false
+}
+
+// A number: all digits at `at` that belong to it.
+fn digits(s: &[u8], at: usize) -> Count
+    requires { ⌜ classAt (now s) at 0 ≡ true ⌝ }
+    ensures { λ r. ⌜ Counts (now (s .entry)) at r ⌝ }
+{
+    let mut n = digit(s, at);
+    let mut p = at + 1;
+    while grows(s, p, n) {
+        n = 10 * n + digit(s, p);
+        p += 1;
+    }
+    Count { n: n as u8, at: p }
+}
+
+// x after all bytes made.
+fn put(g: Reading, x: u8) -> Reading
+    ensures { λ r. ⌜ Puts g x r ⌝ }
+{
+    let mut r = g;
+    let n = g.made;
+    if n < 48 {
+        r.bytes[n] = x;
+        r.made = n + 1;
+        return r;
+    }
+    r.made = 49;
+    r
+}
+
+// The bytes from start on, one place up.
+fn moved(a: [u8; 48], start: usize, n: usize) -> [u8; 48]
+    requires { ⌜ (start ≤ n) × (n < 48) ⌝ }
+    ensures { λ r. ⌜ Moved a start n r ⌝ }
+{
+    let mut b = a;
+    let mut i = n;
+    while start < i {
+        b[i] = b[i - 1];
+        i -= 1;
+    }
+    b
+}
+
+// x before the bytes made from start on.
+fn insert(g: Reading, start: usize, x: u8) -> Reading
+    ensures { λ r. ⌜ Inserts g start x r ⌝ }
+{
+    let mut r = g;
+    let n = g.made;
+    if n < 48 {
+        if start <= n {
+            let a = g.bytes;
+            let mut b = moved(a, start, n);
+            b[start] = x;
+            r.bytes = b;
+            r.made = n + 1;
+            return r;
+        }
+    }
+    r.made = 49;
+    r
+}
+
+// The sign of class c, and the spaces after it.
+fn sign(s: &[u8], g: Reading, c: u8) -> Reading
+    requires { ⌜ (g .at) ≤ length (now s) ⌝ }
+    ensures { λ r. ⌜ Signed (now (s .entry)) g c r ⌝ }
+{
+    let mut r = g;
+    if stands(s, g, c) {
+        r.at = skip(s, g.at + 1);
+        return r;
+    }
+    r.ok = false;
+    r
+}
+
+// Two dots, with nothing between them.
+fn dots(s: &[u8], g: Reading) -> Reading
+    requires { ⌜ Good (now s) g ⌝ }
+    ensures { λ r. ⌜ Dotted (now (s .entry)) g r ⌝ }
+{
+    let mut r = g;
+    if stands(s, g, DOT) {
+        r.at = g.at + 1;
+        return sign(s, r, DOT);
+    }
+    r.ok = false;
+    r
+}
+
+// A number, and the spaces after it.
+fn number(s: &[u8], g: Reading) -> Reading
+    requires { ⌜ (g .at) ≤ length (now s) ⌝ }
+    ensures { λ r. ⌜ Numbered (now (s .entry)) g r ⌝ }
+{
+    let mut a = g;
+    if stands(s, g, DIGIT) {
+        let k = digits(s, g.at);
+        a.at = skip(s, k.at);
+        return put(a, k.n);
+    }
+    a.ok = false;
+    a
+}
+
+// The rest of number[number..number], from its bracket on.
+fn range(s: &[u8], g: Reading) -> Reading
+    requires { ⌜ Good (now s) g × (standsAt (now s) g 6 ≡ true) ⌝ }
+    ensures { λ r. ⌜ Ranged (now (s .entry)) g r ⌝ }
+{
+    let a = sign(s, g, LBRA);
+    let b = number(s, a);
+    let c = dots(s, b);
+    let d = number(s, c);
+    sign(s, d, RBRA)
+}
+
+// A number, number[number..number], or parentheses round a whole text again.
+fn item(s: &[u8], g: Reading) -> Reading
+    requires { ⌜ Good (now s) g ⌝ }
+    ensures { λ r. ⌜ Item (now (s .entry)) g r ⌝ }
+{
+    let start = g.made;
+    if stands(s, g, LPAR) {
+        let a = sign(s, g, LPAR);
+        let b = or_level(s, a, start);
+        return sign(s, b, RPAR);
+    }
+    let a = number(s, g);
+    if stands(s, a, LBRA) {
+        let b = range(s, a);
+        return insert(b, start, 2);
+    }
+    insert(a, start, 1)
+}
+
+// Items joined by &; the bytes made from start on are those to the left of the first.
+fn and_level(s: &[u8], g: Reading, start: usize) -> Reading
+    requires { ⌜ Good (now s) g ⌝ }
+    ensures { λ r. ⌜ Ands (now (s .entry)) start g r ⌝ }
+{
+    let a = item(s, g);
+    if stands(s, a, AMP) {
+        let b = sign(s, a, AMP);
+        let c = insert(b, start, 3);
+        return and_level(s, c, start);
+    }
+    a
+}
+
+// Those joined by |.
+fn or_level(s: &[u8], g: Reading, start: usize) -> Reading
+    requires { ⌜ Good (now s) g ⌝ }
+    ensures { λ r. ⌜ Ors (now (s .entry)) start g r ⌝ }
+{
+    let m = g.made;
+    let a = and_level(s, g, m);
+    if stands(s, a, BAR) {
+        let b = sign(s, a, BAR);
+        let c = insert(b, start, 4);
+        return or_level(s, c, start);
+    }
+    a
+}
+
+// A whole text: blank, or joined items up to its end.
+fn read(s: &[u8]) -> Reading
+    ensures { λ r. ⌜ Whole (now (s .entry)) r ⌝ }
+{
+    let p = skip(s, 0);
+    let g = Reading {
+        ok: true,
+        at: p,
+        made: 0,
+        bytes: [0; 48],
+    };
+    if p == s.len() {
+        return g;
+    }
+    let mut r = or_level(s, g, 0);
+    if r.at < s.len() {
+        r.ok = false;
+    }
+    r
+}
+
+// The first n bytes of b at the front of out.
+fn fill(out: &mut [u8], b: [u8; 48], n: usize)
+    requires { ⌜ (n ≤ 48) × (48 ≤ length (now out)) ⌝ }
+    ensures { λ _. ⌜ now (out .exit) ≡ take n b ++ drop n (now (out .entry)) ⌝ }
+{
+    let mut i = 0;
+    while i < n {
+        out[i] = b[i];
+        i += 1;
+    }
+}
+
+// The bytes of a text at the front of out, and how many they are; or what is wrong with it.
+pub fn turn(text: &[u8], out: &mut [u8]) -> Answer
+    ensures { λ r. ⌜ Decides (textConditions (now (text .entry)) (length (now (out .entry)))) (textGrants (now (text .entry))) r ⌝ }
+    ensures { λ r. ⌜ Leaves r (textMakes (now (text .entry)) (now (out .entry))) (now (out .entry)) (now (out .exit)) ⌝ }
+{
+    if out.len() < LONGEST {
+        return Answer::of(answer::BUFFER_SHORT);
+    }
+    if LONGEST_TEXT < text.len() {
+        return Answer::at(answer::TEXT_WRONG, LONGEST_TEXT);
+    }
+    let g = read(text);
+    if !g.ok {
+        return Answer::at(answer::TEXT_WRONG, g.at);
+    }
+    if LONGEST < g.made {
+        return Answer::of(answer::TEXT_LONG);
+    }
+    let b = g.bytes;
+    fill(out, b, g.made);
+    Answer::at(answer::DONE, g.made)
+}
