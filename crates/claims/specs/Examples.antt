@@ -135,7 +135,7 @@ two-sessions-run =
     (next (asked-read 0 (lit< tt) 0 (lit< tt) (reads-row 0 0 _ _ _ _ _ sample-role0 sample-file0 (e-row (sample .tree) _)) (reads-mediated 0 0 _ _ _ _ _ sample-role0 sample-file0 (λ u x. x)))
     (next (end-step (heldBy 0) (held-well 0 (lit< tt)) 0 (lit< tt) 0 (held-is 0))
     (next (subst (Step (withHold (heldBy 0) 0 Free) (begin 0 1) granted) (freed-again 0 1)
-        (begin-step (withHold (heldBy 0) 0 Free) (free-kept (heldBy 0) (held-well 0 (lit< tt)) 0 (lit< tt)) 0 (lit< tt) 1 (hold-here (heldBy 0) (held-well 0 (lit< tt) .room) 0 Free (lit< tt)) (rw (sample-counts .0) (lit< tt))))
+    (begin-step (withHold (heldBy 0) 0 Free) (free-kept (heldBy 0) (held-well 0 (lit< tt)) 0 (lit< tt)) 0 (lit< tt) 1 (hold-here (heldBy 0) (held-well 0 (lit< tt) .room) 0 Free (lit< tt)) (rw (sample-counts .0) (lit< tt))))
     (next (asked-write 1 (lit< tt) 2 (lit< tt) (writes-row 1 2 _ _ _ _ _ sample-role1 sample-file2) (writes-mediated 1 2 _ _ _ _ _ sample-role1 sample-file2 (λ u x. x)))
     none))))
 

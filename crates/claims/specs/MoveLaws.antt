@@ -91,7 +91,7 @@ move-confines {s} {t} {es} r q {a} {b} m =
     let still = run-holds (w3 .first) (q3 .0) (m .slot) (reading .session .role) (m .not-ended-between) (reading .session .held) in
     let same = one-role (w3 .mid) (m .slot) still (writing .session .held) in
     mediated s (w2 .mid) (w3 .mid) before (kept-then before (run-keeps (w3 .first) (q3 .0))) (reading .session .role) a b (reading .session .has)
-        (subst (λ (x : ℕ). Mediates (w3 .mid) x b write) (sym same) (writing .session .has))
+    (subst (λ (x : ℕ). Mediates (w3 .mid) x b write) (sym same) (writing .session .has))
 
 -- moves one after another
 pub reached-confines : {s t : State} {es : List Event} → Run s es t → Quiet es → {a k b : ℕ} → ReachedBy es a k b → Confines s a b

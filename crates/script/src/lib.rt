@@ -1,0 +1,1 @@
+// A replay input, record by record (01, "The replay program").
