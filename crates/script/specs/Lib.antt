@@ -1,2 +1,3 @@
 pub mod Script
 pub mod Records
+pub mod Playing
