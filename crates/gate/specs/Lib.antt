@@ -1,2 +1,4 @@
 pub mod Rules
 pub mod Requests
+pub mod Lists
+pub mod Laws
