@@ -26,7 +26,7 @@ pub record Session (s : State) (slot : ℕ) (P : ℕ → Type 0) : Type 0 where
   pub held : holdOf s slot ≡ By role
   pub has : P role
 
--- 17, 8, 10, 11
+-- begin: 17, 8, 10, 11
 abbrev pub beginConditions : State → ℕ → ℕ → List Condition
 beginConditions s slot role =
     must (WellFormed s) illFormed
@@ -35,24 +35,26 @@ beginConditions s slot role =
     ∷ must (role < s .nroles) noRole
     ∷ []
 
--- 17, 8, 9
-abbrev pub endConditions : State → ℕ → List Condition
-endConditions s slot =
+-- 17, 8, 9: what every request by a session begins with
+abbrev pub sessionConditions : State → ℕ → List Condition
+sessionConditions s slot =
     must (WellFormed s) illFormed
     ∷ must (slot < slotCount) noSlot
     ∷ must (Taken s slot) slotFree
     ∷ []
 
+-- end: 17, 8, 9
+abbrev pub endConditions : State → ℕ → List Condition
+endConditions s slot = sessionConditions s slot
+
 -- 17, 8, 9, 12, 13, 14: what ask, change and bypass begin with. `row` is the mode of the row that is judged
 abbrev pub rowConditions : State → ℕ → ℕ → ℕ → ℕ → List Condition
 rowConditions s slot file mode row =
-    must (WellFormed s) illFormed
-    ∷ must (slot < slotCount) noSlot
-    ∷ must (Taken s slot) slotFree
-    ∷ must (file < s .nfiles) noFile
+    sessionConditions s slot
+    ++ (must (file < s .nfiles) noFile
     ∷ must (mode < modeCount) noMode
     ∷ must (Session s slot (λ role. Passes s role file row)) rowNotPassed
-    ∷ []
+    ∷ [])
 
 -- ask: 17, 8, 9, 12, 13, 14, 15. The row is that of the mode asked for
 abbrev pub askConditions : State → ℕ → ℕ → ℕ → List Condition
@@ -76,17 +78,20 @@ inOrder kind t plus bs = mustAt (InOrderOver kind t bs) expressionWrong (Added p
 abbrev pub expressionConditions : Kind → Tree → List ℕ → List ℕ → List Condition
 expressionConditions kind t x y = inOrder kind t 0 x ∷ inOrder kind t second y ∷ []
 
--- change: 17, 8, 9, 12, 13, 14, 6. The row is the file's Change Protection row as it was
-abbrev pub changeConditions : State → ℕ → ℕ → ℕ → List ℕ → List ℕ → List Condition
-changeConditions s slot file mode t1 t2 =
+-- 17, 8, 9, 12, 13, 14, 6: what change and bypass have in common. The row judged is the file's Change Protection row as it was, alone
+abbrev pub storeConditions : Kind → State → ℕ → ℕ → ℕ → List ℕ → List ℕ → List Condition
+storeConditions kind s slot file mode x y =
     rowConditions s slot file mode changeProtection
-    ++ expressionConditions Protection (s .tree) t1 t2
+    ++ expressionConditions kind (s .tree) x y
 
--- bypass: the same, then 16
+-- change: 17, 8, 9, 12, 13, 14, 6. T1 and T2 are protection expressions
+abbrev pub changeConditions : State → ℕ → ℕ → ℕ → List ℕ → List ℕ → List Condition
+changeConditions s slot file mode t1 t2 = storeConditions Protection s slot file mode t1 t2
+
+-- bypass: the same, then 16. E and G are privilege expressions
 abbrev pub bypassConditions : State → ℕ → ℕ → ℕ → List ℕ → List ℕ → List Condition
 bypassConditions s slot file mode e g =
-    rowConditions s slot file mode changeProtection
-    ++ expressionConditions Privilege (s .tree) e g
+    storeConditions Privilege s slot file mode e g
     ++ (must (Session s slot (λ role. Covers s role file mode e g)) bypassLacks ∷ [])
 
 -- a grant has place 0
