@@ -14,6 +14,7 @@ ghost use mathlib.Core.Bool.{Bool, true};
 ghost use mathlib.Core.List.{List, [], _∷_};
 ghost use mathlib.Core.Logic.{_↔_};
 ghost use Prim.Native.Nat.{ℕ, _<_, _≤_};
+ghost use Rattle.answer.specs.Answers.{Is};
 ghost use Rattle.securon.specs.Sets.{_≐_, _⊆_, marked};
 ghost use Rattle.expression.specs.Bytes.{Right, SET, MeetsT1, MeetsT2};
 ghost use Rattle.expression.specs.Fronts.{Ready};
@@ -213,4 +214,194 @@ fn is_free(hold: Hold) -> bool
         Hold::Free => true,
         Hold::By(_) => false,
     }
+}
+
+// An answer with place 0, with what is handed on.
+fn seat_of(number: u8, role: u8, levels: Levels) -> Seat
+    ensures { λ r. ⌜ Is (r .answer) number 0 × (r .role ≡ role) × (r .levels ≡ levels) ⌝ }
+{
+    Seat {
+        answer: Answer::of(number),
+        role,
+        levels,
+    }
+}
+
+// 17, 8, 9: the one pass over the state, and what its slot holds.
+fn seated(s: State, slot: u8) -> Seat
+    ensures { λ r. ⌜ Seats (sessionConditions s slot) s slot r ⌝ }
+{
+    let seen = s.well_formed();
+    let levels = seen.levels;
+    if !seen.ok {
+        return seat_of(answer::ILL_FORMED, 0, levels);
+    }
+    let at = slot as usize;
+    if policy::SLOTS <= at {
+        return seat_of(answer::NO_SLOT, 0, levels);
+    }
+    let hold = s.hold(at);
+    match hold {
+        Hold::Free => seat_of(answer::SLOT_FREE, 0, levels),
+        Hold::By(role) => seat_of(answer::DONE, role, levels),
+    }
+}
+
+// 17, 8, 9, 12, 13, 14: whether the session's role passes a row of the file.
+fn permitted(s: State, slot: u8, file: u8, mode: u8, row: usize) -> Seat
+    requires { ⌜ (mode < modeCount → row < modeCount) ⌝ }
+    ensures { λ r. ⌜ Seats (rowConditions s slot file mode row) s slot r ⌝ }
+{
+    let seat = seated(s, slot);
+    let answer = seat.answer;
+    if !answer.granted() {
+        return seat;
+    }
+    let role = seat.role;
+    let levels = seat.levels;
+    let at = file as usize;
+    if s.nfiles <= at {
+        return seat_of(answer::NO_FILE, role, levels);
+    }
+    if policy::MODES <= mode as usize {
+        return seat_of(answer::NO_MODE, role, levels);
+    }
+    let r = s.role(wide(role));
+    let f = s.file(at);
+    let tree = s.tree;
+    if !row_passes(tree, levels, r, f, row) {
+        return seat_of(answer::ROW_NOT_PASSED, role, levels);
+    }
+    seat_of(answer::DONE, role, levels)
+}
+
+// 17, 8, 9, 12, 13, 14, 6: whether the session's role passes the Change Protection row, and both expressions are in order.
+fn storable(s: State, slot: u8, file: u8, mode: u8, kind: Kind, x: &[u8], y: &[u8]) -> Seat
+    ensures { λ r. ⌜ Seats (storeConditions kind s slot file mode (now (x .entry)) (now (y .entry))) s slot r ⌝ }
+{
+    let seat = permitted(s, slot, file, mode, policy::CHANGE_PROTECTION);
+    let answer = seat.answer;
+    if !answer.granted() {
+        return seat;
+    }
+    let role = seat.role;
+    let levels = seat.levels;
+    let tree = s.tree;
+    let judged = judge_both(tree, levels, kind, x, y);
+    Seat {
+        answer: judged,
+        role,
+        levels,
+    }
+}
+
+// Whether the session's role may store E and G: all that `storable` tests, then its bypass set.
+fn bypassable(s: State, slot: u8, file: u8, mode: u8, e: &[u8], g: &[u8]) -> Answer
+    ensures { λ r. ⌜ Answers (bypassConditions s slot file mode (now (e .entry)) (now (g .entry))) r ⌝ }
+{
+    let seat = storable(s, slot, file, mode, Kind::Privilege, e, g);
+    let answer = seat.answer;
+    if !answer.granted() {
+        return answer;
+    }
+    let levels = seat.levels;
+    let r = s.role(wide(seat.role));
+    let f = s.file(file as usize);
+    let tree = s.tree;
+    if !covers(tree, levels, r, f, mode as usize, e, g) {
+        return Answer::of(answer::BYPASS_LACKS);
+    }
+    Answer::of(answer::DONE)
+}
+
+// Whether a session may begin in a slot, as a role.
+fn beginnable(s: State, slot: u8, role: u8) -> Answer
+    ensures { λ r. ⌜ Answers (beginConditions s slot role) r ⌝ }
+{
+    let seen = s.well_formed();
+    if !seen.ok {
+        return Answer::of(answer::ILL_FORMED);
+    }
+    let at = slot as usize;
+    if policy::SLOTS <= at {
+        return Answer::of(answer::NO_SLOT);
+    }
+    if !is_free(s.hold(at)) {
+        return Answer::of(answer::SLOT_TAKEN);
+    }
+    if s.nroles <= role as usize {
+        return Answer::of(answer::NO_ROLE);
+    }
+    Answer::of(answer::DONE)
+}
+
+// begin(slot, role): a free slot is to hold the role asked for.
+pub fn begin(s: State, slot: u8, role: u8) -> Outcome
+    ensures { λ r. ⌜ Begins s slot role r ⌝ }
+{
+    let answer = beginnable(s, slot, role);
+    if answer.granted() {
+        let state = s.with_hold(slot as usize, Hold::By(role));
+        return Outcome { answer, state };
+    }
+    Outcome { answer, state: s }
+}
+
+// end(slot): the slot is to be free.
+pub fn end(s: State, slot: u8) -> Outcome
+    ensures { λ r. ⌜ Ends s slot r ⌝ }
+{
+    let seat = seated(s, slot);
+    let answer = seat.answer;
+    if answer.granted() {
+        let state = s.with_hold(slot as usize, Hold::Free);
+        return Outcome { answer, state };
+    }
+    Outcome { answer, state: s }
+}
+
+// ask(slot, file, mode): whether the session's role may act on the file in that mode. Changes nothing.
+pub fn ask(s: State, slot: u8, file: u8, mode: u8) -> Answer
+    ensures { λ r. ⌜ Asks s slot file mode r ⌝ }
+{
+    let seat = permitted(s, slot, file, mode, mode as usize);
+    let answer = seat.answer;
+    if !answer.granted() {
+        return answer;
+    }
+    let levels = seat.levels;
+    let r = s.role(wide(seat.role));
+    let f = s.file(file as usize);
+    let tree = s.tree;
+    if !mediates(tree, levels, r, f, mode as usize) {
+        return Answer::of(answer::MEDIATING_UNFIT);
+    }
+    Answer::of(answer::DONE)
+}
+
+// change(slot, file, mode, T1, T2): stores both in the file's row of that mode.
+pub fn change(s: State, slot: u8, file: u8, mode: u8, t1: &[u8], t2: &[u8]) -> Outcome
+    ensures { λ r. ⌜ Changes s slot file mode (now (t1 .entry)) (now (t2 .entry)) r ⌝ }
+{
+    let seat = storable(s, slot, file, mode, Kind::Protection, t1, t2);
+    let answer = seat.answer;
+    if answer.granted() {
+        let k = policy::t1_place(mode as usize);
+        let state = s.with_pair(file as usize, k, t1, t2);
+        return Outcome { answer, state };
+    }
+    Outcome { answer, state: s }
+}
+
+// bypass(slot, file, mode, E, G): stores both in the file's row of that mode.
+pub fn bypass(s: State, slot: u8, file: u8, mode: u8, e: &[u8], g: &[u8]) -> Outcome
+    ensures { λ r. ⌜ Bypasses s slot file mode (now (e .entry)) (now (g .entry)) r ⌝ }
+{
+    let answer = bypassable(s, slot, file, mode, e, g);
+    if answer.granted() {
+        let k = policy::e_place(mode as usize);
+        let state = s.with_pair(file as usize, k, e, g);
+        return Outcome { answer, state };
+    }
+    Outcome { answer, state: s }
 }
