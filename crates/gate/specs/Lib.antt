@@ -2,3 +2,4 @@ pub mod Rules
 pub mod Requests
 pub mod Lists
 pub mod Laws
+pub mod Parts
