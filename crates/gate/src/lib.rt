@@ -89,11 +89,17 @@ fn plus_passes(tree: Tree, levels: Levels, role: Role, file: File, mode: usize) 
     requires { ⌜ AtHand tree levels role file × (mode < modeCount) ⌝ }
     ensures { λ x. ⌜ (x ≡ true) ↔ PlusPasses tree role file mode ⌝ }
 {
-    let plus = role_set(tree, levels, role, policy::v_plus_place(mode));
-    if !meets_t1(tree, levels, plus, file, policy::t1_place(mode)) {
+    let plus = role_set(tree, levels, role, policy::role_place(mode, policy::V_PLUS));
+    if !meets_t1(
+        tree,
+        levels,
+        plus,
+        file,
+        policy::file_place(mode, policy::T1),
+    ) {
         return false;
     }
-    let e = file_set(tree, levels, file, policy::e_place(mode));
+    let e = file_set(tree, levels, file, policy::file_place(mode, policy::E));
     e.part(plus)
 }
 
@@ -102,11 +108,22 @@ fn minus_passes(tree: Tree, levels: Levels, role: Role, file: File, mode: usize)
     requires { ⌜ AtHand tree levels role file × (mode < modeCount) ⌝ }
     ensures { λ x. ⌜ (x ≡ true) ↔ MinusPasses tree role file mode ⌝ }
 {
-    let minus = role_set(tree, levels, role, policy::v_minus_place(mode));
-    if meets_t2(tree, levels, minus, file, policy::t2_place(mode)) {
+    let minus = role_set(
+        tree,
+        levels,
+        role,
+        policy::role_place(mode, policy::V_MINUS),
+    );
+    if meets_t2(
+        tree,
+        levels,
+        minus,
+        file,
+        policy::file_place(mode, policy::T2),
+    ) {
         return false;
     }
-    let g = file_set(tree, levels, file, policy::g_place(mode));
+    let g = file_set(tree, levels, file, policy::file_place(mode, policy::G));
     minus.apart(g)
 }
 
@@ -144,8 +161,18 @@ fn mediates(tree: Tree, levels: Levels, role: Role, file: File, mode: usize) -> 
     }
     let m1 = role_set(tree, levels, role, policy::M1_PLACE);
     let m2 = role_set(tree, levels, role, policy::M2_PLACE);
-    let e = file_set(tree, levels, file, policy::e_place(policy::READ));
-    let g = file_set(tree, levels, file, policy::g_place(policy::READ));
+    let e = file_set(
+        tree,
+        levels,
+        file,
+        policy::file_place(policy::READ, policy::E),
+    );
+    let g = file_set(
+        tree,
+        levels,
+        file,
+        policy::file_place(policy::READ, policy::G),
+    );
     sets_fit(mode, m1, m2, e, g)
 }
 
@@ -172,12 +199,12 @@ fn covers(
     ensures { λ x. ⌜ (x ≡ true) ↔ RoleCovers tree role file mode (now (e .entry)) (now (g .entry)) ⌝ }
 {
     let b = role_set(tree, levels, role, policy::B_PLACE);
-    let old_e = file_set(tree, levels, file, policy::e_place(mode));
+    let old_e = file_set(tree, levels, file, policy::file_place(mode, policy::E));
     let new_e = expression::set_of(tree, levels, e);
     if !alters_within(old_e, new_e, b) {
         return false;
     }
-    let old_g = file_set(tree, levels, file, policy::g_place(mode));
+    let old_g = file_set(tree, levels, file, policy::file_place(mode, policy::G));
     let new_g = expression::set_of(tree, levels, g);
     alters_within(old_g, new_g, b)
 }
@@ -231,7 +258,7 @@ fn seat_of(number: u8, role: u8, levels: Levels) -> Seat
 fn seated(s: State, slot: u8) -> Seat
     ensures { λ r. ⌜ Seats (sessionConditions s slot) s slot r ⌝ }
 {
-    let seen = s.well_formed();
+    let seen = s.well_formed(0, 0);
     let levels = seen.levels;
     if !seen.ok {
         return seat_of(answer::ILL_FORMED, 0, levels);
@@ -318,7 +345,7 @@ fn bypassable(s: State, slot: u8, file: u8, mode: u8, e: &[u8], g: &[u8]) -> Ans
 fn beginnable(s: State, slot: u8, role: u8) -> Answer
     ensures { λ r. ⌜ Answers (beginConditions s slot role) r ⌝ }
 {
-    let seen = s.well_formed();
+    let seen = s.well_formed(0, 0);
     if !seen.ok {
         return Answer::of(answer::ILL_FORMED);
     }
@@ -386,7 +413,7 @@ pub fn change(s: State, slot: u8, file: u8, mode: u8, t1: &[u8], t2: &[u8]) -> O
     let seat = storable(s, slot, file, mode, Kind::Protection, t1, t2);
     let answer = seat.answer;
     if answer.granted() {
-        let k = policy::t1_place(mode as usize);
+        let k = policy::file_place(mode as usize, policy::T1);
         let state = s.with_pair(file as usize, k, t1, t2);
         return Outcome { answer, state };
     }
@@ -399,7 +426,7 @@ pub fn bypass(s: State, slot: u8, file: u8, mode: u8, e: &[u8], g: &[u8]) -> Out
 {
     let answer = bypassable(s, slot, file, mode, e, g);
     if answer.granted() {
-        let k = policy::e_place(mode as usize);
+        let k = policy::file_place(mode as usize, policy::E);
         let state = s.with_pair(file as usize, k, e, g);
         return Outcome { answer, state };
     }

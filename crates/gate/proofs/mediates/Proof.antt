@@ -16,25 +16,25 @@ role-set-requires c κs = let p = c .before .pre in (p .ready, omega arith, p .r
 role-set-requires-2 : tie.Need-role-set-requires-2
 role-set-requires-2 c κs = let p = c .before .before .pre in (p .ready, omega arith, p .role .m2)
 
-e-place-requires : tie.Need-e-place-requires
-e-place-requires c κs = search needs
+file-place-requires : tie.Need-file-place-requires
+file-place-requires c κs = search needs
 
 file-set-requires : tie.Need-file-set-requires
-file-set-requires c κs = let p = c .before .before .before .before .pre in rw (c .e-place .ensures) (p .ready, omega arith, p .file .e 0 (omega arith))
+file-set-requires c κs = let p = c .before .before .before .before .pre in rw (c .file-place .ensures) (p .ready, omega arith, p .file .e 0 (omega arith))
 
-g-place-requires : tie.Need-g-place-requires
-g-place-requires c κs = search needs
+file-place-requires-2 : tie.Need-file-place-requires-2
+file-place-requires-2 c κs = search needs
 
 file-set-requires-2 : tie.Need-file-set-requires-2
-file-set-requires-2 c κs = let p = c .before .before .before .before .before .before .pre in rw (c .g-place .ensures) (p .ready, omega arith, p .file .g 0 (omega arith))
+file-set-requires-2 c κs = let p = c .before .before .before .before .before .before .pre in rw (c .file-place2 .ensures) (p .ready, omega arith, p .file .g 0 (omega arith))
 
 sets-fit-requires : tie.Need-sets-fit-requires
 sets-fit-requires c κs = search needs
 
 returns-2 : tie.Need-returns-2
 returns-2 c =
-    let e = rw (c .before .before .before .before .e-place .ensures) at (c .before .before .before .file-set .ensures) in
-    let g = rw (c .before .before .g-place .ensures) at (c .before .file-set2 .ensures) in
+    let e = rw (c .before .before .before .before .file-place .ensures) at (c .before .before .before .file-set .ensures) in
+    let g = rw (c .before .before .file-place2 .ensures) at (c .before .file-set2 .ensures) in
     iff-trans (c .sets-fit .ensures) (same-mediates (c .before .before .before .before .before .before .role-set .ensures) (c .before .before .before .before .before .role-set2 .ensures) e g)
 
 pub mediates-spec : {M : Type 1} → statement M
@@ -44,9 +44,9 @@ mediates-spec =
     returns
     role-set-requires
     role-set-requires-2
-    e-place-requires
+    file-place-requires
     file-set-requires
-    g-place-requires
+    file-place-requires-2
     file-set-requires-2
     sets-fit-requires
     returns-2)

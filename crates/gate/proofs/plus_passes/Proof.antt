@@ -8,38 +8,38 @@ use borrow.Author.Needs.{needs}
 use Rattle.gate.proofs.plus_passes.Statement.{statement}
 use Rattle.gate.proofs.plus_passes.Tie as tie
 
-v-plus-place-requires : tie.Need-v-plus-place-requires
-v-plus-place-requires c κs = search needs
+role-place-requires : tie.Need-role-place-requires
+role-place-requires c κs = search needs
 
 role-set-requires : tie.Need-role-set-requires
-role-set-requires c κs = let p = c .before .pre in rw (c .v-plus-place .ensures) (p .0 .ready, omega arith, p .0 .role .v-plus _ (p .1))
+role-set-requires c κs = let p = c .before .pre in rw (c .role-place .ensures) (p .0 .ready, omega arith, p .0 .role .v-plus _ (p .1))
 
-t1-place-requires : tie.Need-t1-place-requires
-t1-place-requires c κs = search needs
+file-place-requires : tie.Need-file-place-requires
+file-place-requires c κs = search needs
 
 meets-t1-requires : tie.Need-meets-t1-requires
-meets-t1-requires c κs = let p = c .before .before .before .pre in rw (c .t1-place .ensures) (p .0 .ready, omega arith, p .0 .file .t1 _ (p .1))
+meets-t1-requires c κs = let p = c .before .before .before .pre in rw (c .file-place .ensures) (p .0 .ready, omega arith, p .0 .file .t1 _ (p .1))
 
 returns : tie.Need-returns
 returns c =
-    let plus = rw (c .before .before .before .before .v-plus-place .ensures) at (c .before .before .before .role-set .ensures) in
-    let test = rw (c .before .before .t1-place .ensures) at (c .before .meets-t1 .ensures) in
+    let plus = rw (c .before .before .before .before .role-place .ensures) at (c .before .before .before .role-set .ensures) in
+    let test = rw (c .before .before .file-place .ensures) at (c .before .meets-t1 .ensures) in
     no-iff (λ w. not-then-false test (not-true _ (c .if1 .taken)) (same-t1 _ _ _ plus _ .1 (w .0)))
 
-e-place-requires : tie.Need-e-place-requires
-e-place-requires c κs = search needs
+file-place-requires-2 : tie.Need-file-place-requires-2
+file-place-requires-2 c κs = search needs
 
 file-set-requires : tie.Need-file-set-requires
-file-set-requires c κs = let p = c .before .before .before .before .before .before .pre in rw (c .e-place .ensures) (p .0 .ready, omega arith, p .0 .file .e _ (p .1))
+file-set-requires c κs = let p = c .before .before .before .before .before .before .pre in rw (c .file-place2 .ensures) (p .0 .ready, omega arith, p .0 .file .e _ (p .1))
 
 part-requires : tie.Need-part-requires
 part-requires c κs = search needs
 
 returns-2 : tie.Need-returns-2
 returns-2 c =
-    let plus = rw (c .before .before .before .before .before .before .before .v-plus-place .ensures) at (c .before .before .before .before .before .before .role-set .ensures) in
-    let test = rw (c .before .before .before .before .before .t1-place .ensures) at (c .before .before .before .before .meets-t1 .ensures) in
-    let e = rw (c .before .before .e-place .ensures) at (c .before .file-set .ensures) in
+    let plus = rw (c .before .before .before .before .before .before .before .role-place .ensures) at (c .before .before .before .before .before .before .role-set .ensures) in
+    let test = rw (c .before .before .before .before .before .file-place .ensures) at (c .before .before .before .before .meets-t1 .ensures) in
+    let e = rw (c .before .before .file-place2 .ensures) at (c .before .file-set .ensures) in
     let met = same-t1 _ _ _ plus _ .0 (test .0 (not-false _ (c .before .before .before .if1 .left))) in
     iff-trans (c .part .ensures) (iff-trans (same-part e plus) ((λ w. (met, w)), λ w. w .1))
 
@@ -47,12 +47,12 @@ pub plus-passes-spec : {M : Type 1} → statement M
 plus-passes-spec =
     tie.close
     (tie.spec
-    v-plus-place-requires
+    role-place-requires
     role-set-requires
-    t1-place-requires
+    file-place-requires
     meets-t1-requires
     returns
-    e-place-requires
+    file-place-requires-2
     file-set-requires
     part-requires
     returns-2)
