@@ -83,3 +83,125 @@ fn uncalled(next: Next, state: State) -> Played
         state,
     }
 }
+
+// 01 slot role.
+fn play_begin(s: State, rest: &[u8]) -> Played
+    requires { ⌜ (0 < length (now rest)) × (getD (now rest) 0 0 ≡ 1) ⌝ }
+    ensures { λ r. ⌜ NextIs s (now (rest .entry)) (r .answer) (r .state) (r .next) ⌝ }
+{
+    if rest.len() < 3 {
+        return uncalled(Next::Cut, s);
+    }
+    let done = gate::begin(s, rest[1], rest[2]);
+    let answer = done.answer;
+    let state = done.state;
+    Played {
+        next: Next::Whole(3),
+        answer,
+        state,
+    }
+}
+
+// 02 slot.
+fn play_end(s: State, rest: &[u8]) -> Played
+    requires { ⌜ (0 < length (now rest)) × (getD (now rest) 0 0 ≡ 2) ⌝ }
+    ensures { λ r. ⌜ NextIs s (now (rest .entry)) (r .answer) (r .state) (r .next) ⌝ }
+{
+    if rest.len() < 2 {
+        return uncalled(Next::Cut, s);
+    }
+    let done = gate::end(s, rest[1]);
+    let answer = done.answer;
+    let state = done.state;
+    Played {
+        next: Next::Whole(2),
+        answer,
+        state,
+    }
+}
+
+// 03 slot file mode.
+fn play_ask(s: State, rest: &[u8]) -> Played
+    requires { ⌜ (0 < length (now rest)) × (getD (now rest) 0 0 ≡ 3) ⌝ }
+    ensures { λ r. ⌜ NextIs s (now (rest .entry)) (r .answer) (r .state) (r .next) ⌝ }
+{
+    if rest.len() < 4 {
+        return uncalled(Next::Cut, s);
+    }
+    let answer = gate::ask(s, rest[1], rest[2], rest[3]);
+    Played {
+        next: Next::Whole(4),
+        answer,
+        state: s,
+    }
+}
+
+// 04 slot file mode, length byte and bytes, twice.
+fn play_change(s: State, rest: &[u8]) -> Played
+    requires { ⌜ (0 < length (now rest)) × (getD (now rest) 0 0 ≡ 4) ⌝ }
+    ensures { λ r. ⌜ NextIs s (now (rest .entry)) (r .answer) (r .state) (r .next) ⌝ }
+{
+    let found = bounds_in(rest);
+    if !found.whole {
+        return uncalled(Next::Cut, s);
+    }
+    let mid = found.mid;
+    let from = mid + 1;
+    let end = found.end;
+    let done = gate::change(s, rest[1], rest[2], rest[3], &rest[5..mid], &rest[from..end]);
+    let answer = done.answer;
+    let state = done.state;
+    Played {
+        next: Next::Whole(end),
+        answer,
+        state,
+    }
+}
+
+// 05 slot file mode, length byte and bytes, twice.
+fn play_bypass(s: State, rest: &[u8]) -> Played
+    requires { ⌜ (0 < length (now rest)) × (getD (now rest) 0 0 ≡ 5) ⌝ }
+    ensures { λ r. ⌜ NextIs s (now (rest .entry)) (r .answer) (r .state) (r .next) ⌝ }
+{
+    let found = bounds_in(rest);
+    if !found.whole {
+        return uncalled(Next::Cut, s);
+    }
+    let mid = found.mid;
+    let from = mid + 1;
+    let end = found.end;
+    let done = gate::bypass(s, rest[1], rest[2], rest[3], &rest[5..mid], &rest[from..end]);
+    let answer = done.answer;
+    let state = done.state;
+    Played {
+        next: Next::Whole(end),
+        answer,
+        state,
+    }
+}
+
+// The next record of the input, run on the state.
+pub fn play(s: State, rest: &[u8]) -> Played
+    ensures { λ r. ⌜ NextIs s (now (rest .entry)) (r .answer) (r .state) (r .next) ⌝ }
+{
+    if rest.len() == 0 {
+        return uncalled(Next::Ended, s);
+    }
+    let code = rest[0];
+    if code == BEGIN {
+        return play_begin(s, rest);
+    }
+    if code == END {
+        return play_end(s, rest);
+    }
+    if code == ASK {
+        return play_ask(s, rest);
+    }
+    if code == CHANGE {
+        return play_change(s, rest);
+    }
+    if code == BYPASS {
+        return play_bypass(s, rest);
+    }
+    uncalled(Next::Cut, s)
+}
