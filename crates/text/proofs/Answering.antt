@@ -3,7 +3,6 @@ use mathlib.Core.Path.{_≡_, refl, sym, ap, _∙_, subst}
 use mathlib.Core.List.{List, [], _∷_, _++_, append-assoc}
 use mathlib.Core.Logic.{inl, inr}
 use Prim.Native.Nat.{ℕ, suc, _+_, _<_, _≤_}
-use native.Mathlib.Decide.{decLt}
 use native.Mathlib.Numerals.{add-one}
 use native.Mathlib.Omega.{arith}
 use lib.ListN.{length, take, drop, getD, set}
@@ -62,20 +61,16 @@ module _ (s : List ℕ) (room : ℕ) (a : Answer) where
         too-many u i = inr (h, inr ((q, (b, g)), inl ((λ w. not-few w), i .number, i .place)))
           where
             not-few : (c : List ℕ) × Gives s c × (length c ≤ 48) → ⊥
-            not-few (c, r, l) = let e : length b ≡ length c = ap length (one-reading g r) in omega (arith, k .fits (omega arith))
+            not-few (c, r, l) = let e : length b ≡ length c = ap length (one-reading g r) in omega (arith, k .count)
 
-        few : n ≤ 48 → length b ≤ 48
-        few u = go (decLt 48 (length b))
-          where
-            go : Dec (48 < length b) → length b ≤ 48
-            go (yes l) = absurd (omega (arith, k .over l))
-            go (no l) = omega arith
+        all : n ≤ 48 → n ≡ length b
+        all u = omega (arith, k .count)
 
         pub turned : n ≤ 48 → Is a 0 n → Right-answer
-        turned u i = inr (h, inr ((q, (b, g)), inr ((b, g, few u), (i .number, (b, g, i .place ∙ k .fits (few u))))))
+        turned u i = inr (h, inr ((q, (b, g)), inr ((b, g, omega (arith, all u)), (i .number, (b, g, i .place ∙ all u)))))
 
         pub filled : n ≤ 48 → (before after : List ℕ) → after ≡ take n bs ++ drop n before → Is a 0 n → Leaves a (textMakes s before) before after
         filled u before after e i = record {
-          on-grant = λ _. (b, g, e ∙ ap (λ (z : ℕ). take z bs ++ drop z before) (k .fits (few u)) ∙ ap (λ (z : List ℕ). z ++ drop (length b) before) (k .holds (few u)));
+          on-grant = λ _. (b, g, e ∙ ap (λ (z : List ℕ). z ++ drop n before) (k .holds u) ∙ ap (λ (z : ℕ). b ++ drop z before) (all u));
           on-refusal = λ r. absurd (r (i .number));
         }

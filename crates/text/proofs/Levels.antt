@@ -14,7 +14,7 @@ use Rattle.text.specs.Classes.{classOf, value, pick, digit, space, amp, 
 use Rattle.text.specs.Text.{Tokens, end, spaced, blank, whole}
 use Rattle.text.specs.Scan.{Frame, Left, Part, alone, from, upto, State, want, bound, digits, counted, dotted, done, fresh, opened, and-to, or-to, finish, shut, anded, ored, move, ends, at-first}
 use Rattle.text.specs.Place.{Reaches, said, fault}
-use Rattle.text.specs.Kept.{Kept, From}
+use Rattle.text.specs.Kept.{counted as Kept·counted, Kept}
 use Rattle.text.specs.Reader.{classAt, standsAt, At, Good, On, Holds, Beside, Puts, Inserts, Skipped, Counts, Needs, Signed, Dotted, Numbered, Ranged, Item, front, Ands, Ors, Whole}
 use Rattle.text.specs.declared.Reading.{Reading}
 use Rattle.text.specs.declared.Count.{Count}
@@ -142,8 +142,8 @@ module _ (s : List ℕ) where
   }
 
   -- the bytes made before start there
-  starts : (g : Reading) (w : List ℕ) → g .ok ≡ true → Holds g w → From (g .made) w
-  starts g w ok h = h ok .fits
+  starts : (g : Reading) (w : List ℕ) → g .ok ≡ true → Holds g w → g .made ≡ Kept·counted w
+  starts g w ok h = h ok .count
 
   -- ---- an item
   module _ (g : Reading) (good : Good s g) (b : Bool) (eb : b ≡ standsAt s g lpar) where
@@ -267,7 +267,7 @@ module _ (s : List ℕ) where
   all-spaces (x ∷ s) f = spaced (f 0 (omega arith)) (all-spaces s (λ k h. f (suc k) (omega arith)))
 
   none-kept : (bs : List ℕ) → Kept 0 bs []
-  none-kept bs = record { fits = λ _. refl; over = λ h. absurd (omega arith); holds = λ _. refl }
+  none-kept bs = record { count = refl; holds = λ _. refl }
 
   -- after joined items, where none of their signs stands
   left-over : (ok : Bool) (k : ℕ) (e : Expr) (b : Option Expr) → k < length s → (ok ≡ true → classAt s k space ≡ false) → (ok ≡ true → classAt s k amp ≡ false) → (ok ≡ true → classAt s k bar ≡ false)
@@ -305,7 +305,7 @@ module _ (s : List ℕ) where
         legal = λ ok. (
           bytes (or-to (O .b none) (O .e none)),
           whole (said s (r .at) (done (O .e none) (O .b none) []) (or-to (O .b none) (O .e none)) h (from-ok r _ ok reaches) (unfold ends in refl)),
-          O .holds none [] (λ _. refl) (λ _. none-kept bs) ok,
+          O .holds none [] refl (λ _. none-kept bs) ok,
         );
         wrong = λ z. fault s (r .at) (O .on .good .within) not-blank (subst (λ (b : Bool). Reaches s (r .at) (pick b (some (done (O .e none) (O .b none) [])) none)) z reaches);
       }

@@ -7,7 +7,7 @@ use native.Mathlib.Numerals.{add-one}
 use native.Mathlib.Omega.{arith}
 use lib.ListN.{length, take, getD, set, length-set, length-append, List·getD-append}
 use lib.Seq.{getD-take, getD-append-add, getD-at, ext-getD, length-take-le, take-suc-set, getD-set-same, getD-set-other}
-use Rattle.text.specs.Kept.{Kept, From, Moved}
+use Rattle.text.specs.Kept.{counted, Kept, Moved}
 use Rattle.text.specs.Reader.{Puts, Inserts}
 use Rattle.text.specs.declared.Reading.{Reading}
 
@@ -43,102 +43,65 @@ module _ (a : List ℕ) (start n i : ℕ) (b : List ℕ) (m : Moving a start n i
   move-end h = record { long = m .long; below = λ k l. m .low k (omega (arith, m .least)); above = λ k l u. m .high k (omega arith) u }
 
 -- ---- one byte more
-put-fits : (n : ℕ) (b : List ℕ) (x : ℕ) → n < length b → length b ≡ 48 → n < 48 → (w : List ℕ) → Kept n b w → Kept (n + 1) (set b n x) (w ++ (x ∷ []))
-put-fits n b x h l u w k = record { fits = λ q. omega (arith, k .fits (omega (arith, length-append w (x ∷ []))), length-append w (x ∷ [])); over = λ q. absurd (small q); holds = λ q. more q }
-  where
-    len : length (w ++ (x ∷ [])) ≡ length w + 1
-    len = length-append w (x ∷ [])
+module _ (g : Reading) (x : ℕ) where
+  pub put-in : length (g .bytes) ≡ 48 → g .made < 48 → Puts g x (record { ok = g .ok; at = g .at; made = g .made + 1; bytes = set (g .bytes) (g .made) x })
+  put-in l u = record { beside = record { ok = refl; at = refl }; holds = λ w h ok. more w (h ok) }
+    where
+      more : (w : List ℕ) → Kept (g .made) (g .bytes) w → Kept (g .made + 1) (set (g .bytes) (g .made) x) (w ++ (x ∷ []))
+      more w k = record {
+        count = omega (arith, k .count, length-append w (x ∷ []));
+        holds = λ _. ap (λ (z : ℕ). take z (set (g .bytes) (g .made) x)) (add-one (g .made)) ∙ take-suc-set (g .bytes) (g .made) x (omega arith) ∙ ap (λ (z : List ℕ). z ++ (x ∷ [])) (k .holds (omega arith));
+      }
 
-    few : Dec (48 < length w) → length w ≤ 48
-    few (yes q) = absurd (omega (arith, k .over q))
-    few (no q) = omega arith
-
-    is : n ≡ length w
-    is = k .fits (few (decLt 48 (length w)))
-
-    small : 48 < length (w ++ (x ∷ [])) → ⊥
-    small q = omega (arith, is, len)
-
-    more : length (w ++ (x ∷ [])) ≤ 48 → take (length (w ++ (x ∷ []))) (set b n x) ≡ w ++ (x ∷ [])
-    more q =
-        ap (λ (z : ℕ). take z (set b n x)) (len ∙ ap (λ (z : ℕ). z + 1) (sym is) ∙ add-one n) ∙ take-suc-set b n x h
-        ∙ ap (λ (z : List ℕ). z ++ (x ∷ [])) (ap (λ (z : ℕ). take z b) is ∙ k .holds (few (decLt 48 (length w))))
-
-pub put-in : (g : Reading) (x : ℕ) → length (g .bytes) ≡ 48 → g .made < 48 → Puts g x (record { ok = g .ok; at = g .at; made = g .made + 1; bytes = set (g .bytes) (g .made) x })
-put-in g x l u = record { beside = record { ok = refl; at = refl }; holds = λ w h ok. put-fits (g .made) (g .bytes) x (omega arith) l u w (h ok) }
-
--- what is full stays full
+-- one more than 48 is over, and so is one more than that
 full : (n : ℕ) (b w z : List ℕ) → 48 ≤ n → length z ≡ length w + 1 → Kept n b w → Kept 49 b z
-full n b w z u len k = record { fits = λ q. absurd (no-fit q); over = λ q. refl; holds = λ q. absurd (no-fit q) }
-  where
-    no-fit : length z ≤ 48 → ⊥
-    no-fit q = omega (arith, k .fits (omega (arith, len)), len)
+full n b w z u len k = record { count = omega (arith, k .count); holds = λ q. absurd (omega arith) }
 
 pub put-over : (g : Reading) (x : ℕ) → 48 ≤ g .made → Puts g x (record { ok = g .ok; at = g .at; made = 49; bytes = g .bytes })
 put-over g x u = record { beside = record { ok = refl; at = refl }; holds = λ w h ok. full (g .made) (g .bytes) w (w ++ (x ∷ [])) u (length-append w (x ∷ [])) (h ok) }
 
+-- ---- a byte between
 one-more : (v : List ℕ) (x : ℕ) (w : List ℕ) → length (v ++ (x ∷ w)) ≡ length (v ++ w) + 1
 one-more v x w = omega (arith, length-append v (x ∷ w), length-append v w)
 
-pub insert-over : (g : Reading) (start x : ℕ) → 48 ≤ g .made → Inserts g start x (record { ok = g .ok; at = g .at; made = 49; bytes = g .bytes })
-insert-over g start x u = record { beside = record { ok = refl; at = refl }; holds = λ v w f h ok. full (g .made) (g .bytes) (v ++ w) (v ++ (x ∷ w)) u (one-more v x w) (h ok) }
+module _ (n start x : ℕ) (b r : List ℕ) (l : length b ≡ 48) (u : n < 48) (m : Moved b start n r) (v w : List ℕ) (at : start ≡ counted v) (k : Kept n b (v ++ w)) where
+  old : (j : ℕ) → j < n → getD b j 0 ≡ getD (v ++ w) j 0
+  old j h = sym (getD-take n b j 0 h) ∙ ap (λ (z : List ℕ). getD z j 0) (k .holds (omega arith))
 
--- ---- a byte between
-module _ (n : ℕ) (b : List ℕ) (start x : ℕ) (l : length b ≡ 48) (u : n < 48) where
-  few-of : (w : List ℕ) → Kept n b w → length w ≤ 48
-  few-of w k = go (decLt 48 (length w))
-    where
-      go : Dec (48 < length w) → length w ≤ 48
-      go (yes q) = absurd (omega (arith, k .over q))
-      go (no q) = omega arith
+  seam : start ≡ length v
+  seam = omega (arith, k .count, length-append v w)
+
+  each : (j : ℕ) → j < n + 1 → Dec (j < start) → Dec (start < j) → getD (set r start x) j 0 ≡ getD (v ++ (x ∷ w)) j 0
+  each j h (yes q) d =
+      getD-set-other r start j x 0 (λ e. omega arith) ∙ m .below j q ∙ old j (omega (arith, seam, k .count, length-append v w))
+      ∙ List·getD-append v w 0 j (omega (arith, seam)) ∙ sym (List·getD-append v (x ∷ w) 0 j (omega (arith, seam)))
+  each j h (no q) (yes p) =
+      let t : ℕ = j - 1 - start in
+      let e : j - 1 + 1 ≡ j = omega arith in
+      let i : j - 1 ≡ length v + t = omega (arith, seam) in
+      let g : length v + suc t ≡ j = omega (arith, seam) in
+      getD-set-other r start j x 0 (λ e. omega arith) ∙ ap (λ (z : ℕ). getD r z 0) (sym e) ∙ m .above (j - 1) (omega arith) (omega arith) ∙ old (j - 1) (omega arith)
+      ∙ ap (λ (z : ℕ). getD (v ++ w) z 0) i ∙ getD-append-add v w t 0 ∙ sym (getD-append-add v (x ∷ w) (suc t) 0) ∙ ap (λ (z : ℕ). getD (v ++ (x ∷ w)) z 0) g
+  each j h (no q) (no p) =
+      let e : j ≡ start = omega arith in
+      ap (λ (z : ℕ). getD (set r start x) z 0) e ∙ getD-set-same r start x 0 (omega (arith, m .long)) ∙ sym (getD-at v x w 0 j (omega (arith, seam)))
+
+  inserted : Kept (n + 1) (set r start x) (v ++ (x ∷ w))
+  inserted =
+      let c : n + 1 ≡ length (v ++ (x ∷ w)) = omega (arith, k .count, one-more v x w) in
+      let d : length (take (n + 1) (set r start x)) ≡ n + 1 = length-take-le (n + 1) (set r start x) (omega (arith, length-set r start x, m .long)) in
+      record {
+        count = omega arith;
+        holds = λ _. ext-getD 0 _ _ (d ∙ c) (λ j h. let q : j < n + 1 = omega arith in getD-take (n + 1) (set r start x) j 0 q ∙ each j q (decLt j start) (decLt start j));
+      }
+
+module _ (g : Reading) (start x : ℕ) where
+  pub insert-over : 48 ≤ g .made → Inserts g start x (record { ok = g .ok; at = g .at; made = 49; bytes = g .bytes })
+  insert-over u = record { beside = record { ok = refl; at = refl }; holds = λ v w f h ok. full (g .made) (g .bytes) (v ++ w) (v ++ (x ∷ w)) u (one-more v x w) (h ok) }
 
   -- start is always within
-  not-far : n < start → (v w : List ℕ) → From start v → Kept n b (v ++ w) → ⊥
-  not-far h v w f k = omega (arith, k .fits (few-of (v ++ w) k), f (omega (arith, few-of (v ++ w) k, length-append v w)), length-append v w)
+  pub insert-far : g .made < 48 → g .made < start → Inserts g start x (record { ok = g .ok; at = g .at; made = 49; bytes = g .bytes })
+  insert-far u q = record { beside = record { ok = refl; at = refl }; holds = λ v w f h ok. absurd (omega (arith, f, h ok .count, length-append v w)) }
 
-  module _ (r : List ℕ) (m : Moved b start n r) (v w : List ℕ) (f : From start v) (k : Kept n b (v ++ w)) where
-    few : length (v ++ w) ≤ 48
-    few = few-of (v ++ w) k
-
-    is : n ≡ length (v ++ w)
-    is = k .fits few
-
-    at : start ≡ length v
-    at = f (omega (arith, few, length-append v w))
-
-    long : length (set r start x) ≡ 48
-    long = length-set r start x ∙ m .long ∙ l
-
-    old : (j : ℕ) → j < n → getD b j 0 ≡ getD (v ++ w) j 0
-    old j h = sym (getD-take n b j 0 h) ∙ ap (λ (z : List ℕ). getD z j 0) (ap (λ (z : ℕ). take z b) is ∙ k .holds few)
-
-    each : (j : ℕ) → j < n + 1 → Dec (j < start) → Dec (start < j) → getD (set r start x) j 0 ≡ getD (v ++ (x ∷ w)) j 0
-    each j h (yes q) d = getD-set-other r start j x 0 (λ e. omega arith) ∙ m .below j q ∙ old j (omega (arith, is, at, length-append v w)) ∙ List·getD-append v w 0 j (omega (arith, at)) ∙ sym (List·getD-append v (x ∷ w) 0 j (omega (arith, at)))
-    each j h (no q) (yes p) =
-        let t : ℕ = j - 1 - start in
-        let e : j - 1 + 1 ≡ j = omega arith in
-        let i : j - 1 ≡ length v + t = omega (arith, at) in
-        let g : length v + suc t ≡ j = omega (arith, at) in
-        getD-set-other r start j x 0 (λ e. omega arith) ∙ ap (λ (z : ℕ). getD r z 0) (sym e) ∙ m .above (j - 1) (omega arith) (omega arith) ∙ old (j - 1) (omega arith)
-        ∙ ap (λ (z : ℕ). getD (v ++ w) z 0) i ∙ getD-append-add v w t 0 ∙ sym (getD-append-add v (x ∷ w) (suc t) 0) ∙ ap (λ (z : ℕ). getD (v ++ (x ∷ w)) z 0) g
-    each j h (no q) (no p) =
-        let e : j ≡ start = omega arith in
-        ap (λ (z : ℕ). getD (set r start x) z 0) e ∙ getD-set-same r start x 0 (omega (arith, m .long, l, is, at, length-append v w)) ∙ sym (getD-at v x w 0 j (omega (arith, at)))
-
-    few-more : length (v ++ (x ∷ w)) ≤ length (set r start x)
-    few-more = omega (arith, long, is, one-more v x w)
-
-    inserted : take (length (v ++ (x ∷ w))) (set r start x) ≡ v ++ (x ∷ w)
-    inserted = ext-getD 0 _ _ (length-take-le _ (set r start x) few-more)
-        (λ j h. let q : j < length (v ++ (x ∷ w)) = omega (arith, length-take-le (length (v ++ (x ∷ w))) (set r start x) few-more) in
-        getD-take (length (v ++ (x ∷ w))) (set r start x) j 0 q ∙ each j (omega (arith, is, one-more v x w)) (decLt j start) (decLt start j))
-
-    kept : Kept (n + 1) (set r start x) (v ++ (x ∷ w))
-    kept = record { fits = λ _. omega (arith, is, one-more v x w); over = λ q. absurd (omega (arith, is, one-more v x w)); holds = λ _. inserted }
-
-module _ (g : Reading) (start x : ℕ) (l : length (g .bytes) ≡ 48) (u : g .made < 48) where
-  pub insert-far : g .made < start → Inserts g start x (record { ok = g .ok; at = g .at; made = 49; bytes = g .bytes })
-  insert-far h = record { beside = record { ok = refl; at = refl }; holds = λ v w f k ok. absurd (not-far (g .made) (g .bytes) start x l u h v w f (k ok)) }
-
-  pub insert-in : (r : List ℕ) → Moved (g .bytes) start (g .made) r → Inserts g start x (record { ok = g .ok; at = g .at; made = g .made + 1; bytes = set r start x })
-  insert-in r m = record { beside = record { ok = refl; at = refl }; holds = λ v w f k ok. kept (g .made) (g .bytes) start x l u r m v w f (k ok) }
+  pub insert-in : length (g .bytes) ≡ 48 → g .made < 48 → (r : List ℕ) → Moved (g .bytes) start (g .made) r → Inserts g start x (record { ok = g .ok; at = g .at; made = g .made + 1; bytes = set r start x })
+  insert-in l u r m = record { beside = record { ok = refl; at = refl }; holds = λ v w f h ok. inserted (g .made) start x (g .bytes) r l u m v w f (h ok) }

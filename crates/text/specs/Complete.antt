@@ -9,7 +9,7 @@ use borrow.Author.Tests.{ne-eqb}
 use Rattle.expression.specs.Expression.{Expr, term, one, range}
 use Rattle.expression.specs.Bytes.{bytes}
 use Rattle.text.specs.Classes.{classOf, value, digit, space, amp, bar, lpar, rpar, lbra, rbra, dot}
-use Rattle.text.specs.Text.{one-digit, two-digits, Token, number, sign, dots, Written, as-number, as-sign, as-dots, Tokens, end, spaced, next, Level, item, ands, ors, Reads, single, between, bracket, an-item, and, an-and, or, Says, Gives, blank, whole}
+use Rattle.text.specs.Text.{Token, number, sign, dots, Written, as-number, as-sign, as-dots, Tokens, end, spaced, next, Level, item, ands, ors, Reads, single, between, bracket, an-item, and, an-and, or, Says, Gives, blank, whole}
 use Rattle.text.specs.Numbers.{Built, starts, more, built}
 use Rattle.text.specs.Scan.{Frame, Left, Part, alone, from, upto, State, want, bound, digits, counted, dotted, done, fresh, opened, or-to, finish, anded, move, step, ends, go-on, scan}
 

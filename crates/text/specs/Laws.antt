@@ -12,9 +12,9 @@ use Rattle.answer.specs.Answers.{Decides, Granted, Leaves}
 use Rattle.answer.specs.Laws.{AtMostOne, said, one-answer, one-left, one-fault}
 use Rattle.text.specs.Text.{Legal}
 use Rattle.text.specs.Complete.{one-reading}
-use Rattle.text.specs.Turn.{longestText, WrongAt, textConditions, textGrants, textMakes}
+use Rattle.text.specs.Turn.{longestText, TextWrongAt, textConditions, textGrants, textMakes}
 
-one-place : (s : List ℕ) → AtMostOne (WrongAt s)
+one-place : (s : List ℕ) → AtMostOne (TextWrongAt s)
 one-place s x y (inl p) (inl q) = p .1 ∙ sym (q .1)
 one-place s x y (inl p) (inr q) = absurd (omega (arith, p .0, q .0))
 one-place s x y (inr p) (inl q) = absurd (omega (arith, p .0, q .0))

@@ -14,7 +14,7 @@ use Rattle.text.specs.Text.{Gives, Legal}
 use Rattle.text.specs.Scan.{Frame, Left, Part, alone, from, upto, State, want, bound, digits, counted, done, or-to, finish, grows, step, ends}
 use Rattle.text.specs.Complete.{Stays}
 use Rattle.text.specs.Place.{Reaches}
-use Rattle.text.specs.Kept.{Kept, From}
+use Rattle.text.specs.Kept.{counted as Kept·counted, Kept}
 use Rattle.text.specs.declared.Reading.{Reading}
 use Rattle.text.specs.declared.Count.{Count}
 
@@ -59,7 +59,7 @@ pub record Puts (g : Reading) (x : ℕ) (r : Reading) : Type 0 where
 
 pub record Inserts (g : Reading) (start x : ℕ) (r : Reading) : Type 0 where
   pub beside : Beside g r
-  pub holds : (v w : List ℕ) → From start v → Holds g (v ++ w) → Holds r (v ++ (x ∷ w))
+  pub holds : (v w : List ℕ) → start ≡ Kept·counted v → Holds g (v ++ w) → Holds r (v ++ (x ∷ w))
 
 -- ---- what each function has read
 pub record Skipped (s : List ℕ) (at q : ℕ) : Type 0 where
@@ -124,7 +124,7 @@ pub record Ands (s : List ℕ) (start : ℕ) (g r : Reading) : Type 0 where
   pub no-amp : r .ok ≡ true → classAt s (r .at) amp ≡ false
   pub e : Option Expr → Expr
   pub moves : (b a : Option Expr) (o : List Frame) → At s g (want (record { bars = b; amps = a; outer = o })) → At s r (done (e a) b o)
-  pub holds : (a : Option Expr) (v : List ℕ) → From start v → Holds g (v ++ front 3 a) → Holds r (v ++ bytes (e a))
+  pub holds : (a : Option Expr) (v : List ℕ) → start ≡ Kept·counted v → Holds g (v ++ front 3 a) → Holds r (v ++ bytes (e a))
 
 -- for whatever b is joined by | to the first of them
 pub record Ors (s : List ℕ) (start : ℕ) (g r : Reading) : Type 0 where
@@ -134,7 +134,7 @@ pub record Ors (s : List ℕ) (start : ℕ) (g r : Reading) : Type 0 where
   pub b : Option Expr → Option Expr
   pub e : Option Expr → Expr
   pub moves : (x : Option Expr) (o : List Frame) → At s g (want (record { bars = x; amps = none; outer = o })) → At s r (done (e x) (b x) o)
-  pub holds : (x : Option Expr) (v : List ℕ) → From start v → Holds g (v ++ front 4 x) → Holds r (v ++ bytes (or-to (b x) (e x)))
+  pub holds : (x : Option Expr) (v : List ℕ) → start ≡ Kept·counted v → Holds g (v ++ front 4 x) → Holds r (v ++ bytes (or-to (b x) (e x)))
 
 -- the bytes of a legal text, or the place of the first fault
 pub record Whole (s : List ℕ) (r : Reading) : Type 0 where

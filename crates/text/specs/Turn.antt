@@ -15,20 +15,20 @@ abbrev pub longestText : ℕ
 longestText = 512
 
 -- a text that can be turned
-abbrev pub Right : List ℕ → Type 0
-Right s = (length s ≤ longestText) × Legal s
+abbrev pub TextRight : List ℕ → Type 0
+TextRight s = (length s ≤ longestText) × Legal s
 
 -- place for 18: text over 512 bytes gives 512; else the first byte where no legal text of any length begins with the bytes up to and with it; else the text's length
-abbrev pub WrongAt : List ℕ → ℕ → Type 0
-WrongAt s k = ((longestText < length s) × (k ≡ longestText)) ⊎ ((length s ≤ longestText) × FaultAt Legal s k)
+abbrev pub TextWrongAt : List ℕ → ℕ → Type 0
+TextWrongAt s k = ((longestText < length s) × (k ≡ longestText)) ⊎ ((length s ≤ longestText) × FaultAt Legal s k)
 
 -- the bytes that the text gives are at most 48
-abbrev pub Fits : List ℕ → Type 0
-Fits s = (b : List ℕ) × Gives s b × (length b ≤ longest)
+abbrev pub TextFits : List ℕ → Type 0
+TextFits s = (b : List ℕ) × Gives s b × (length b ≤ longest)
 
 -- text s into an output of room bytes: 20, then 18, 19
 abbrev pub textConditions : List ℕ → ℕ → List Condition
-textConditions s room = must (longest ≤ room) bufferShort ∷ mustAt (Right s) textWrong (WrongAt s) ∷ must (Fits s) textLong ∷ []
+textConditions s room = must (longest ≤ room) bufferShort ∷ mustAt (TextRight s) textWrong (TextWrongAt s) ∷ must (TextFits s) textLong ∷ []
 
 -- 0: place is the byte count
 abbrev pub textGrants : List ℕ → ℕ → Type 0

@@ -6,6 +6,8 @@ ghost use mathlib.Core.List.{_++_};
 ghost use lib.ListN.{length, take, drop};
 ghost use Rattle.answer.specs.Answers.{Decides, Leaves};
 ghost use Rattle.text.specs.Turn.{textConditions, textGrants, textMakes};
+ghost use Rattle.text.specs.Classes.{digit as Classes·digit, lbra as Classes·lbra};
+ghost use Rattle.text.specs.Scan.{below};
 ghost use Rattle.text.specs.Kept.{Moved};
 ghost use Rattle.text.specs.Reader.{classAt, standsAt, growsAt, Skipped, Digit, Counts, Good, Puts, Inserts, Signed, Dotted, Numbered, Ranged, Item, Ands, Ors, Whole};
 
@@ -28,15 +30,18 @@ const LONGEST_TEXT: usize = 512;
 
 const LONGEST: usize = 48;
 
+// Any number of bytes that is over the most.
+const OVER: usize = 49;
+
 // All numbers are below it: they have one or two digits.
 const BELOW: usize = 100;
 
-// How far a text is read. ok: up to `at`, with `made` bytes made, 49 for more than 48, and the bytes kept while they fit. Not ok: at fault at `at`.
+// How far a text is read. ok: up to `at`, with `made` bytes made, and those bytes while they fit. Not ok: at fault at `at`.
 struct Reading {
     ok: bool,
     at: usize,
     made: usize,
-    bytes: [u8; 48],
+    bytes: [u8; LONGEST],
 }
 
 // A number and the place after its digits.
@@ -77,12 +82,13 @@ fn skip(s: &[u8], at: usize) -> usize
 
 // What the digit at `at` counts.
 fn digit(s: &[u8], at: usize) -> usize
-    requires { ⌜ classAt (now s) at 0 ≡ true ⌝ }
+    requires { ⌜ classAt (now s) at Classes·digit ≡ true ⌝ }
     ensures { λ r. ⌜ Digit (now (s .entry)) at r ⌝ }
 {
     wide(s[at]) - 48
 }
 
+// A byte as a number to reckon with.
 fn wide(x: u8) -> usize
     ensures { λ r. ⌜ r ≡ x ⌝ }
 {
@@ -91,7 +97,7 @@ fn wide(x: u8) -> usize
 
 // Whether a digit at `at` makes a longer number of n: no leading zero, at most two digits.
 fn grows(s: &[u8], at: usize, n: usize) -> bool
-    requires { ⌜ n < 100 ⌝ }
+    requires { ⌜ n < below ⌝ }
     ensures { λ r. ⌜ r ≡ growsAt (now (s .entry)) at n ⌝ }
 {
     if is_class(s, at, DIGIT) {
@@ -104,7 +110,7 @@ fn grows(s: &[u8], at: usize, n: usize) -> bool
 
 // A number: all digits at `at` that belong to it.
 fn digits(s: &[u8], at: usize) -> Count
-    requires { ⌜ classAt (now s) at 0 ≡ true ⌝ }
+    requires { ⌜ classAt (now s) at Classes·digit ≡ true ⌝ }
     ensures { λ r. ⌜ Counts (now (s .entry)) at r ⌝ }
 {
     let mut n = digit(s, at);
@@ -122,17 +128,17 @@ fn put(g: Reading, x: u8) -> Reading
 {
     let mut r = g;
     let n = g.made;
-    if n < 48 {
+    if n < LONGEST {
         r.bytes[n] = x;
         r.made = n + 1;
         return r;
     }
-    r.made = 49;
+    r.made = OVER;
     r
 }
 
 // The bytes from start on, one place up.
-fn moved(a: [u8; 48], start: usize, n: usize) -> [u8; 48]
+fn moved(a: [u8; LONGEST], start: usize, n: usize) -> [u8; LONGEST]
     requires { ⌜ (start ≤ n) × (n < 48) ⌝ }
     ensures { λ r. ⌜ Moved a start n r ⌝ }
 {
@@ -151,7 +157,7 @@ fn insert(g: Reading, start: usize, x: u8) -> Reading
 {
     let mut r = g;
     let n = g.made;
-    if n < 48 {
+    if n < LONGEST {
         if start <= n {
             let a = g.bytes;
             let mut b = moved(a, start, n);
@@ -161,7 +167,7 @@ fn insert(g: Reading, start: usize, x: u8) -> Reading
             return r;
         }
     }
-    r.made = 49;
+    r.made = OVER;
     r
 }
 
@@ -210,7 +216,7 @@ fn number(s: &[u8], g: Reading) -> Reading
 
 // The rest of number[number..number], from its bracket on.
 fn range(s: &[u8], g: Reading) -> Reading
-    requires { ⌜ Good (now s) g × (standsAt (now s) g 6 ≡ true) ⌝ }
+    requires { ⌜ Good (now s) g × (standsAt (now s) g Classes·lbra ≡ true) ⌝ }
     ensures { λ r. ⌜ Ranged (now (s .entry)) g r ⌝ }
 {
     let a = sign(s, g, LBRA);
@@ -277,7 +283,7 @@ fn read(s: &[u8]) -> Reading
         ok: true,
         at: p,
         made: 0,
-        bytes: [0; 48],
+        bytes: [0; LONGEST],
     };
     if p == s.len() {
         return g;
@@ -290,7 +296,7 @@ fn read(s: &[u8]) -> Reading
 }
 
 // The first n bytes of b at the front of out.
-fn fill(out: &mut [u8], b: [u8; 48], n: usize)
+fn fill(out: &mut [u8], b: [u8; LONGEST], n: usize)
     requires { ⌜ (n ≤ 48) × (48 ≤ length (now out)) ⌝ }
     ensures { λ _. ⌜ now (out .exit) ≡ take n b ++ drop n (now (out .entry)) ⌝ }
 {

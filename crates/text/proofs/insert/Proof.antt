@@ -19,7 +19,7 @@ returns : tie.Need-returns
 returns c = let g : length (c .before .before .before .before .args .g .bytes) ≡ 48 = search needs in insert-in (c .before .before .before .before .args .g) _ _ g (c .before .before .before .if1 .taken) _ (c .moved .ensures)
 
 returns-2 : tie.Need-returns-2
-returns-2 c = let g : length (c .before .before .args .g .bytes) ≡ 48 = search needs in insert-far (c .before .before .args .g) _ _ g (c .before .if1 .taken) (c .if2 .left)
+returns-2 c = insert-far (c .before .before .args .g) _ _ (c .before .if1 .taken) (c .if2 .left)
 
 returns-3 : tie.Need-returns-3
 returns-3 c = insert-over (c .before .args .g) _ _ (c .if1 .left)
