@@ -148,7 +148,14 @@ fn play_change(s: State, rest: &[u8]) -> Played
     let mid = found.mid;
     let from = mid + 1;
     let end = found.end;
-    let done = gate::change(s, rest[1], rest[2], rest[3], &rest[5..mid], &rest[from..end]);
+    let done = gate::change(
+        s,
+        rest[1],
+        rest[2],
+        rest[3],
+        &rest[5..mid],
+        &rest[from..end],
+    );
     let answer = done.answer;
     let state = done.state;
     Played {
@@ -170,7 +177,14 @@ fn play_bypass(s: State, rest: &[u8]) -> Played
     let mid = found.mid;
     let from = mid + 1;
     let end = found.end;
-    let done = gate::bypass(s, rest[1], rest[2], rest[3], &rest[5..mid], &rest[from..end]);
+    let done = gate::bypass(
+        s,
+        rest[1],
+        rest[2],
+        rest[3],
+        &rest[5..mid],
+        &rest[from..end],
+    );
     let answer = done.answer;
     let state = done.state;
     Played {
