@@ -1,3 +1,5 @@
 pub mod Image
 pub mod Faults
 pub mod Load
+pub mod Reading
+pub mod Order
