@@ -4,6 +4,7 @@ use mathlib.Core.List.{List, [], _∷_, append-nil}
 use mathlib.Core.Logic.{inl, inr, ⊎-elim}
 use Prim.Native.Nat.{ℕ, _+_, _-_, _<_, _≤_}
 use native.Mathlib.Omega.{arith}
+use borrow.Author.Needs.{zero≤}
 use lib.ListN.{length, take, drop, getD, length-drop}
 use lib.Seq.{take-all, take-length, length-take-le}
 use Rattle.answer.specs.Numbers.{markWrong, endsEarly, expressionWrong}
@@ -11,13 +12,13 @@ use Rattle.answer.specs.Faults.{Begins, FaultAt}
 use Rattle.expression.specs.declared.Kind.{Kind}
 use Rattle.expression.specs.declared.Scanned.{Scanned}
 use Rattle.expression.specs.declared.Scanned.the-variants.{Whole, Short, Fault}
-use Rattle.expression.specs.Bytes.{Right, Finds}
+use Rattle.expression.specs.Bytes.{longest, Right, Finds}
 use Rattle.image.specs.declared.Met.{Met}
 use Rattle.image.specs.declared.Met.the-variants.{Read, Refused}
 use Rattle.image.specs.declared.ByteMet.{ByteMet}
-use Rattle.image.specs.Faults.{Byte, Within, Meets, mark, present, AllThere, Cut}
+use Rattle.image.specs.Faults.{Byte, Within, Meets, mark, Expression, Stated, present, AllThere, Cut}
 use Rattle.image.specs.Reading.{Follows, ByteRead}
-use Rattle.image.specs.Order.{not-both, same-end, follows-read, follows-stays, follows-map, follows-one}
+use Rattle.image.specs.Order.{not-both, same-end, follows-read, follows-stays, follows-map, follows-one, follows-from, follows-led, byte-read}
 
 module _ (bs : List ℕ) (m : Met) (low high number : ℕ) (fit : low ≤ high) (r : ByteMet) where
   -- nothing is read after a refusal
@@ -56,6 +57,20 @@ byte-as P Q number to back bs m r f = follows-map (Byte P number) (Byte Q number
 -- a byte of the mark
 pub mark-as : (b : ℕ) (bs : List ℕ) (m r : Met) → Follows m (Byte (Within b b) markWrong) bs r → Follows m (Meets (mark b ∷ [])) bs r
 mark-as b bs m r f = follows-one (mark b) bs m r (byte-as (Within b b) (λ (x : ℕ). x ≡ b) markWrong (λ x w. omega (arith, w .0, w .1)) (λ x e. (omega arith, omega arith)) bs m r f)
+
+-- what was read ends within the image
+pub byte-ends : (bs : List ℕ) (m : Met) (low high number : ℕ) (r : ByteMet) → ByteRead bs m low high number r → {at : ℕ} → r .met ≡ Read at → at ≤ length bs
+byte-ends bs m low high number r w {at} e =
+    let f = follows-from (Byte (Within low high) number) bs m at (subst (Follows m (Byte (Within low high) number) bs) e (w .met)) in
+    let g = byte-read (Within low high) number bs (f .0) at (f .2) in
+    omega (arith, g .0, g .2)
+
+-- an expression: its length byte, and the stated bytes
+pub expression-as : (kind : Kind) (n d : ℕ) (bs : List ℕ) (m : Met) (b : ByteMet) (t : Met) → ByteRead bs m 0 longest expressionWrong b → Follows (b .met) (Stated kind n d (b .value)) bs t → Follows m (Expression kind n d) bs t
+expression-as kind n d bs m b t w g =
+    follows-led (λ x. x ≤ longest) expressionWrong (Stated kind n d) bs m (b .met) t (b .value)
+    (byte-as (Within 0 longest) (λ (x : ℕ). x ≤ longest) expressionWrong (λ x v. v .1) (λ x v. (zero≤, v)) bs m (b .met) (w .met))
+    (w .is) g
 
 module _ (kind : Kind) (n d m : ℕ) (bs : List ℕ) (at : ℕ) where
   -- the stated bytes are all there

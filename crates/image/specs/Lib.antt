@@ -3,3 +3,4 @@ pub mod Faults
 pub mod Load
 pub mod Reading
 pub mod Order
+pub mod Standing

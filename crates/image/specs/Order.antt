@@ -2,11 +2,12 @@
 use mathlib.Core.Path.{_≡_, refl, sym, ap, _∙_, subst}
 use mathlib.Core.List.{List, [], _∷_, _++_}
 use mathlib.Core.Logic.{_⊎_, inl, inr}
-use Prim.Native.Nat.{ℕ, zero, suc}
+use Prim.Native.Nat.{ℕ, _+_, _<_}
 use native.Mathlib.Omega.{arith}
+use lib.ListN.{length, getD}
 use Rattle.image.specs.declared.Met.{Met}
 use Rattle.image.specs.declared.Met.the-variants.{Read, Refused}
-use Rattle.image.specs.Faults.{Stretch, IsRefusal, _then_, Field, Faces, Meets}
+use Rattle.image.specs.Faults.{Stretch, IsRefusal, _then_, Byte, led, Field, Faces, Meets}
 use Rattle.image.specs.Reading.{Follows}
 
 -- what is read is not refused, and ends at one place
@@ -78,3 +79,16 @@ pub follows-none : (bs : List ℕ) (m : Met) → Follows m (Meets []) bs m
 unfolding Follows
 follows-none bs (Read at) = refl
 follows-none bs (Refused n k) = refl
+
+-- a byte that is read is there, is in order, and is one byte
+pub byte-read : (P : ℕ → Type 0) (number : ℕ) (bs : List ℕ) (a b : ℕ) → Byte P number bs a (Read b) → (a < length bs) × P (getD bs a 0) × (b ≡ a + 1)
+byte-read P number bs a b (inl w) = absurd (not-both refl (w .1))
+byte-read P number bs a b (inr (l, inl (p, e))) = (l, p, same-end refl e)
+byte-read P number bs a b (inr (l, inr (n, e))) = absurd (not-both refl e)
+
+-- a leading byte, whose value is v where it is read, and then the rest
+pub follows-led : (P : ℕ → Type 0) (number : ℕ) (rest : ℕ → Stretch) (bs : List ℕ) (m r t : Met) (v : ℕ) → Follows m (Byte P number) bs r → ((a b : ℕ) → m ≡ Read a → r ≡ Read b → v ≡ getD bs a 0) → Follows r (rest v) bs t → Follows m (led P number rest) bs t
+unfolding Follows
+follows-led P number rest bs (Refused n k) r t v f same g = subst (λ (x : Met). Follows x (rest v) bs t) f g
+follows-led P number rest bs (Read at) (Refused n k) t v f same g = subst (λ (x : Met). led P number rest bs at x) (sym g) (inl (tt, f))
+follows-led P number rest bs (Read at) (Read b) t v f same g = inr (b, f, subst (λ (x : ℕ). rest x bs b t) (same at b refl refl) g)

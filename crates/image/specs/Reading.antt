@@ -62,12 +62,12 @@ pub record PartRead (bs : List ℕ) (from : Met) (file : Bool) (n d k : ℕ) (le
   pub stored : (a b : ℕ) → from ≡ Read a → r ≡ Read b → (x : List ℕ) × InOrder (kindAt file k) n d x × Stands bs a (expressionBytes x) b × (lens' ≡ set lens k (length x)) × (bytes' ≡ putBytes bytes k x)
   pub kept : IsRefusal r → (lens' ≡ lens) × (bytes' ≡ bytes)
 
--- a shelf that was fine is fine, and what is read stands in it
-pub record ShelfRead (bs : List ℕ) (from : Met) (file : Bool) (n d places : ℕ) (lens bytes : List ℕ) (r : Met) : Type 0 where
-  pub met : Follows from (Meets (shelfFields file n d places)) bs r
+-- the first k places of a shelf: it is fine, and what is read stands in it
+pub record ShelfRead (bs : List ℕ) (from : Met) (file : Bool) (n d places k : ℕ) (lens bytes : List ℕ) (r : Met) : Type 0 where
+  pub met : Follows from (Meets (shelfFields file n d k)) bs r
   pub room : HasPlaces places lens bytes
   pub fine : ShelfFine file n d lens bytes
-  pub stands : Between bs from (shelfBytes places lens bytes) r
+  pub stands : Between bs from (shelfBytes k lens bytes) r
 
 pub record RoleRead (bs : List ℕ) (from : Met) (n d : ℕ) (r : RoleMet) : Type 0 where
   pub met : Follows from (Meets (roleFields n d)) bs (r .met)

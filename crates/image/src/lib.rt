@@ -268,7 +268,7 @@ fn read_shelf(
     bytes: &mut [u8],
 ) -> Met
     requires { ⌜ (0 < n) × (length (now bytes) ≡ longest * length (now lens)) × ShelfFine file n (depth .0) (now lens) (now bytes) ⌝ }
-    ensures { λ r. ⌜ ShelfRead (now (image .entry)) from file n (depth .0) (length (now (lens .entry))) (now (lens .exit)) (now (bytes .exit)) r ⌝ }
+    ensures { λ r. ⌜ ShelfRead (now (image .entry)) from file n (depth .0) (length (now (lens .entry))) (length (now (lens .entry))) (now (lens .exit)) (now (bytes .exit)) r ⌝ }
 {
     let mut met = from;
     for k in 0..lens.len() {

@@ -1,47 +1,48 @@
+-- `image::read_expression` meets its contract: the length byte leads, and the stated bytes follow, all there or cut. Assumes nothing.
+use mathlib.Core.Path.{refl}
+use mathlib.Core.Logic.{inl, inr}
+use native.Mathlib.Omega.{arith}
+use Rattle.image.specs.Faults.{Stated}
+use Rattle.image.specs.Order.{follows-read, follows-stays}
+use Rattle.image.proofs.Bytes.{byte-ends, expression-as}
 use borrow.Author.Needs.{needs}
 use Rattle.image.proofs.read_expression.Statement.{statement}
 use Rattle.image.proofs.read_expression.Tie as tie
-use Rattle.image.proofs.read_expression.Reads as reads
-use Rattle.image.proofs.read_expression.Lts as lts
-use Rattle.image.proofs.all_there.Reads as all-there-reads
-use Rattle.image.proofs.cut.Reads as cut-reads
-use Rattle.image.proofs.read_byte.Reads as read-byte-reads
 
--- src/lib.rt:221:9
 read-byte-requires : tie.Need-read-byte-requires
 read-byte-requires c κs = search needs
 
--- src/lib.rt:224:19
 enum-known-met : tie.Need-enum-known-met
 enum-known-met c = search needs
 
--- src/lib.rt:225:9
 enum-told : tie.Need-enum-told
 enum-told c = search needs
 
--- src/lib.rt:225:9
 returns : tie.Need-returns
-returns c = ?
+returns c = expression-as _ _ _ _ _ _ _ (c .before .before .read-byte .ensures) (follows-stays (Stated _ _ _ _) _ (c .enum-told .given .1) refl)
 
--- src/lib.rt:227:8
 sub-if1 : tie.Need-sub-if1
-sub-if1 c = ?
+sub-if1 c = byte-ends _ _ _ _ _ _ (c .before .before .before .read-byte .ensures) (c .before .met .given .1)
 
--- src/lib.rt:228:9
 cut-requires : tie.Need-cut-requires
-cut-requires c κs = ?
+cut-requires c κs = 
+    let e = byte-ends _ _ _ _ _ _ (c .before .before .before .before .read-byte .ensures) (c .before .before .met .given .1) in
+    (c .before .before .before .before .before .before .pre, e, omega arith)
 
--- src/lib.rt:228:9
 returns-2 : tie.Need-returns-2
-returns-2 c = ?
+returns-2 c = 
+    let e = byte-ends _ _ _ _ _ _ (c .before .before .before .before .before .read-byte .ensures) (c .before .before .before .met .given .1) in
+    expression-as _ _ _ _ _ _ _ (c .before .before .before .before .before .read-byte .ensures) (follows-read (Stated _ _ _ _) _ (c .before .before .before .met .given .1) (inr (omega (arith, c .before .if1 .taken), c .cut .ensures)))
 
--- src/lib.rt:230:5
 all-there-requires : tie.Need-all-there-requires
-all-there-requires c κs = ?
+all-there-requires c κs = 
+    let e = byte-ends _ _ _ _ _ _ (c .before .before .before .before .read-byte .ensures) (c .before .before .met .given .1) in
+    (c .before .before .before .before .before .before .pre, omega arith)
 
--- src/lib.rt:217:1
 returns-3 : tie.Need-returns-3
-returns-3 c = ?
+returns-3 c = 
+    let e = byte-ends _ _ _ _ _ _ (c .before .before .before .before .before .read-byte .ensures) (c .before .before .before .met .given .1) in
+    expression-as _ _ _ _ _ _ _ (c .before .before .before .before .before .read-byte .ensures) (follows-read (Stated _ _ _ _) _ (c .before .before .before .met .given .1) (inl (omega (arith, c .before .if1 .left), c .all-there .ensures)))
 
 pub read-expression-spec : {M : Type 1} → statement M
 read-expression-spec =
