@@ -100,3 +100,41 @@ module _ {bs : List ℕ} {from : Met} {file : Bool} {n d places k : ℕ} {lens b
             rw (got .3, got .4, e, same-end q refl)
             (stands-more bs a (w .0) b (shelfBytes k lens bytes) (expressionBytes x) (was .stands a (w .0) p (w .1)) (got .2));
       }
+
+-- the kind as it was told
+pub kind-as : {told kind : Kind} (n d : ℕ) (bs : List ℕ) (m r : Met) → told ≡ kind → Follows m (Expression told n d) bs r → Follows m (Expression kind n d) bs r
+kind-as n d bs m r e f = subst (λ (k : Kind). Follows m (Expression k n d) bs r) e f
+
+module _ (bs : List ℕ) (m : Met) (file : Bool) (n d k : ℕ) (lens bytes : List ℕ) (r : Met) (met : Follows m (Expression (kindAt file k) n d) bs r) where
+  -- a refusal stores nothing
+  pub part-refused : {number place : ℕ} → r ≡ Refused number place → PartRead bs m file n d k lens bytes lens bytes r
+  part-refused e = record { met = met; stored = λ a b p q. absurd (not-both q e); kept = λ _. (refl, refl) }
+
+  -- after a refusal nothing is read
+  pub part-never : {number place b : ℕ} → m ≡ Refused number place → r ≡ Read b → ⊥
+  part-never {number} {place} {b} e q =
+      let w = follows-from (Expression (kindAt file k) n d) bs m b (subst (Follows m (Expression (kindAt file k) n d) bs) q met) in
+      not-both (w .1) e
+
+  -- an expression that is read is stored
+  pub part-stored : {a b : ℕ} (bytes' : List ℕ) → m ≡ Read a → r ≡ Read b → bytes' ≡ putBytes bytes k (take (b - (a + 1)) (drop (a + 1) bs)) → PartRead bs m file n d k lens bytes (set lens k (b - (a + 1))) bytes' r
+  part-stored {a} {b} bytes' p q e =
+      let f = expression-found (kindAt file k) n d bs m r met p q in
+      record {
+        met = met;
+        stored = λ i j s t.
+            let ei : a ≡ i = same-end p s in
+            let ej : b ≡ j = same-end q t in
+            (
+              take (b - (a + 1)) (drop (a + 1) bs),
+              f .in-order,
+              subst (λ (y : ℕ). Stands bs i (expressionBytes (take (b - (a + 1)) (drop (a + 1) bs))) y) ej (subst (λ (y : ℕ). Stands bs y (expressionBytes (take (b - (a + 1)) (drop (a + 1) bs))) b) ei (f .stands)),
+              ap (set lens k) (sym (f .long)),
+              e,
+            );
+        kept = λ w. absurd (no-refusal q w);
+      }
+
+-- all places
+pub shelf-all : {bs : List ℕ} {from : Met} {file : Bool} {n d places k : ℕ} {lens bytes : List ℕ} {m : Met} → ShelfRead bs from file n d places k lens bytes m → k ≡ places → ShelfRead bs from file n d places places lens bytes m
+shelf-all {bs} {from} {file} {n} {d} {places} {k} {lens} {bytes} {m} w e = subst (λ (i : ℕ). ShelfRead bs from file n d places i lens bytes m) e w

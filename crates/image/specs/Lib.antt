@@ -4,3 +4,4 @@ pub mod Load
 pub mod Reading
 pub mod Order
 pub mod Standing
+pub mod Places
