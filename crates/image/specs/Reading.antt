@@ -3,12 +3,13 @@ use mathlib.Core.Path.{_≡_}
 use mathlib.Core.Bool.{Bool, true, false}
 use mathlib.Core.List.{List, [], _∷_, _++_}
 use Prim.Native.Nat.{ℕ, _+_, _*_, _-_, _<_, _≤_}
+use lib.Dec.{ltb}
 use lib.ListN.{length, take, drop, getD, set}
 use Rattle.tree.specs.declared.Tree.{Tree}
 use Rattle.expression.specs.Bytes.{longest, InOrder}
-use Rattle.policy.specs.State.{storedAt, offRole, offFile, putBytes}
+use Rattle.policy.specs.State.{mostRoles, mostFiles, storedAt, offRole, offFile, putBytes}
 use Rattle.policy.specs.WellFormed.{HasPlaces}
-use Rattle.policy.specs.Fine.{kindAt, ShelfFine, RoleIs, FileIs, RolesAre, FilesAre, TreeFine}
+use Rattle.policy.specs.Fine.{kindAt, ShelfFine, RoleIs, FileIs, TreeFine}
 use Rattle.image.specs.declared.Met.{Met}
 use Rattle.image.specs.declared.Met.the-variants.{Read, Refused}
 use Rattle.image.specs.declared.ByteMet.{ByteMet}
@@ -79,15 +80,18 @@ pub record FileRead (bs : List ℕ) (from : Met) (n d : ℕ) (r : FileMet) : Typ
   pub is : FileIs true n d (r .file)
   pub stands : Between bs from (fileBytes (r .file)) (r .met)
 
-pub record RolesRead (bs : List ℕ) (from : Met) (count n d : ℕ) (r : RolesMet) : Type 0 where
-  pub met : Follows from (Meets (each count (λ i. roleFields n d))) bs (r .met)
-  pub are : RolesAre count n d (r .roles)
-  pub stands : Between bs from (each count (λ i. roleBytes (getD (r .roles) i offRole))) (r .met)
+-- the first i of the room for rows, each of these fields: those are used and the others zero, and what is read stands in them
+pub record Rows {A : Type 0} (off : A) (bytesOf : A → List ℕ) (Is : Bool → A → Type 0) (fields : List Field) (most : ℕ) (bs : List ℕ) (from : Met) (i : ℕ) (rows : List A) (r : Met) : Type 0 where
+  pub met : Follows from (Meets (each i (λ _. fields))) bs r
+  pub room : length rows ≡ most
+  pub are : (j : ℕ) → j < most → Is (ltb j i) (getD rows j off)
+  pub stands : Between bs from (each i (λ j. bytesOf (getD rows j off))) r
 
-pub record FilesRead (bs : List ℕ) (from : Met) (count n d : ℕ) (r : FilesMet) : Type 0 where
-  pub met : Follows from (Meets (each count (λ i. fileFields n d))) bs (r .met)
-  pub are : FilesAre count n d (r .files)
-  pub stands : Between bs from (each count (λ i. fileBytes (getD (r .files) i offFile))) (r .met)
+abbrev pub RolesRead : List ℕ → Met → ℕ → ℕ → ℕ → RolesMet → Type 0
+RolesRead bs from count n d r = Rows offRole roleBytes (λ used. RoleIs used n d) (roleFields n d) mostRoles bs from count (r .roles) (r .met)
+
+abbrev pub FilesRead : List ℕ → Met → ℕ → ℕ → ℕ → FilesMet → Type 0
+FilesRead bs from count n d r = Rows offFile fileBytes (λ used. FileIs used n d) (fileFields n d) mostFiles bs from count (r .files) (r .met)
 
 pub record ImageRead (bs : List ℕ) (r : ImageMet) : Type 0 where
   pub met : Whole bs 0 (r .met)

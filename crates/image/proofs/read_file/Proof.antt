@@ -1,25 +1,23 @@
+-- `image::read_file` meets its contract: a shelf of zeros is read into. Assumes nothing.
+use mathlib.Core.Path.{refl}
+use mathlib.Core.Bool.{true, false}
+use Rattle.policy.specs.State.{filePlaces}
+use Rattle.image.proofs.Row.{file-read, fine-none}
 use borrow.Author.Needs.{needs}
 use Rattle.image.proofs.read_file.Statement.{statement}
 use Rattle.image.proofs.read_file.Tie as tie
-use Rattle.image.proofs.read_file.Reads as reads
-use Rattle.image.proofs.read_file.Lts as lts
-use Rattle.image.proofs.read_shelf.Reads as read-shelf-reads
 
--- src/lib.rt:299:55
 slice-aggregate-read-shelf : tie.Need-slice-aggregate-read-shelf
 slice-aggregate-read-shelf c = search needs
 
--- src/lib.rt:299:66
 slice-aggregate-read-shelf-2 : tie.Need-slice-aggregate-read-shelf-2
 slice-aggregate-read-shelf-2 c = search needs
 
--- src/lib.rt:299:9
 read-shelf-requires : tie.Need-read-shelf-requires
-read-shelf-requires c κs = ?
+read-shelf-requires c κs = (c .before .before .before .pre, refl, fine-none true _ _ filePlaces)
 
--- src/lib.rt:293:1
 returns : tie.Need-returns
-returns c = ?
+returns c = file-read _ _ _ _ _ (c .before .before .read-shelf .ensures)
 
 pub read-file-spec : {M : Type 1} → statement M
 read-file-spec =
