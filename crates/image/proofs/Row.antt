@@ -73,6 +73,10 @@ module _ {A : Type 0} (off : A) (bytesOf : A → List ℕ) (Is : Bool → A → 
           let w = follows-from (Meets fields) bs m c (subst (Follows m (Meets fields) bs) q f) in
           absurd (not-both (w .1) e)
 
+  -- all rows
+  pub rows-all : {i count : ℕ} {rows : List A} {m : Met} → Rows off bytesOf Is fields most bs from i rows m → i ≡ count → Rows off bytesOf Is fields most bs from count rows m
+  rows-all {i} {count} {rows} {m} w e = subst (λ (j : ℕ). Rows off bytesOf Is fields most bs from j rows m) e w
+
 -- a role and a file from their shelves
 pub role-read : (bs : List ℕ) (from : Met) (n d : ℕ) (r : RoleMet) → ShelfRead bs from false n d rolePlaces rolePlaces (r .role .lens) (r .role .bytes) (r .met) → RoleRead bs from n d r
 role-read bs from n d r w = record {

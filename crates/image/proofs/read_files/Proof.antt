@@ -1,46 +1,49 @@
+-- `image::read_files` meets its contract: the files passed are read, and the others are zero. The measure is what is left of them. Assumes nothing.
+use Prim.Native.Nat.{ℕ, _≤_, _-_}
+use native.Mathlib.Omega.{arith}
+use borrow.Author.Needs.{needs}
+use Rattle.policy.specs.State.{mostFiles, offFile, noFile}
+use Rattle.policy.specs.Fine.{FileIs}
+use Rattle.image.specs.Image.{fileBytes}
+use Rattle.image.specs.Faults.{fileFields}
+use Rattle.image.specs.Reading.{Rows}
+use Rattle.image.proofs.Row.{rows-none, rows-more, rows-all, no-file}
 use Rattle.image.proofs.read_files.Statement.{statement}
 use Rattle.image.proofs.read_files.Tie as tie
-use Rattle.image.proofs.read_files.Reads as reads
-use Rattle.image.proofs.read_files.Lts as lts
-use Rattle.image.proofs.read_file.Reads as read-file-reads
 
 abbrev Inv-loop : tie.InvT-loop
-Inv-loop image count n depth files₀ met₀ i₀ files met i = ?
+Inv-loop image count n depth files₀ met₀ i₀ files met i =
+    (i ≤ count) × Rows offFile fileBytes (λ used. FileIs used n (depth .0)) (fileFields n (depth .0)) mostFiles image met₀ i files met
 
 abbrev μ-loop : tie.MeasureT-loop
-μ-loop image count n depth files₀ met₀ i₀ files met i = ?
+μ-loop image count n depth files₀ met₀ i₀ files met i = count - i
 
--- src/lib.rt:335:5
 loop-holds : tie.Need-loop-holds Inv-loop μ-loop
-loop-holds c = ?
+loop-holds c = (search needs, rows-none _ _ _ _ _ _ _ noFile (no-file _ _))
 
--- src/lib.rt:336:13
 read-file-requires : tie.Need-read-file-requires Inv-loop μ-loop
-read-file-requires c κs = ?
+read-file-requires c κs = c .before .before .before .pre .0
 
--- src/lib.rt:338:9
 mul-files : tie.Need-mul-files Inv-loop μ-loop
-mul-files c = ?
+mul-files c = omega (arith, c .before .before .before .before .before .pre .1)
 
--- src/lib.rt:338:9
 array-set-from-files : tie.Need-array-set-from-files Inv-loop μ-loop
-array-set-from-files c = ?
+array-set-from-files c = omega (arith, c .before .before .before .before .before .pre .1)
 
--- src/lib.rt:335:9
 add-i : tie.Need-add-i Inv-loop μ-loop
-add-i c = ?
+add-i c = omega (arith, c .before .before .before .before .before .pre .1)
 
--- src/lib.rt:335:5
 loop-less : tie.Need-loop-less Inv-loop μ-loop
-loop-less c = ?
+loop-less c = omega arith
 
--- src/lib.rt:335:5
 loop-again : tie.Need-loop-again Inv-loop μ-loop
-loop-again c = ?
+loop-again c = 
+    let w = c .before .before .before .loop .inv in
+    let r = c .before .read-file .ensures in
+    (omega arith, rows-more _ _ _ _ _ _ _ (w .1) (omega (arith, c .before .before .before .before .before .pre .1)) _ _ (r .met) (r .is) (r .stands))
 
--- src/lib.rt:325:1
 returns : tie.Need-returns Inv-loop μ-loop
-returns c = ?
+returns c = let w = c .before .loop .inv in rows-all _ _ _ _ _ _ _ (w .1) (omega (arith, w .0))
 
 pub read-files-spec : {M : Type 1} → statement M
 read-files-spec =
