@@ -24,7 +24,7 @@ use Rattle.image.specs.declared.RolesMet.{RolesMet}
 use Rattle.image.specs.declared.FilesMet.{FilesMet}
 use Rattle.image.specs.declared.ImageMet.{ImageMet}
 use Rattle.image.specs.Image.{each, markS, markP, markT, version1, parentBytes, roleBytes, fileBytes, imageOf, IsImage}
-use Rattle.image.specs.Faults.{Byte, Within, Version, End, end, Meets, counted, headFields, parentFields, roleFields, fileFields, treeAt, Shelves, Over, Grown, Whole, _then_}
+use Rattle.image.specs.Faults.{Byte, Within, Version, End, end, Meets, counted, headFields, parentFields, roleFields, fileFields, treeAt, Files, Shelves, Over, Grown, Whole, _then_}
 use Rattle.image.specs.Reading.{Follows, Stands, ByteRead, TreeRead, RolesRead, FilesRead, ImageRead}
 use Rattle.image.specs.Order.{not-both, same-end, byte-read, follows-read, follows-from, follows-start, follows-then, follows-map, follows-led, follows-one}
 use Rattle.image.specs.Standing.{stands-more, stands-byte}
@@ -109,8 +109,8 @@ module _
   -- in this order
   shelves : Follows (t .met) (Shelves (t .tree .n) d) bs m
   shelves =
-      follows-led (Within 0 mostRoles) countWrong (λ r. Meets (each r (λ i. roleFields (t .tree .n) d)) then counted 0 mostFiles (λ f. Meets (each f (λ i. fileFields (t .tree .n) d)) then Meets (end ∷ []))) bs (t .met) (c2 .met) m (c2 .value) (role-count .met) (role-count .is)
-      (follows-then (Meets (each (c2 .value) (λ i. roleFields (t .tree .n) d))) (counted 0 mostFiles (λ f. Meets (each f (λ i. fileFields (t .tree .n) d)) then Meets (end ∷ []))) bs (c2 .met) (rs .met) m (roles .met)
+      follows-led (Within 0 mostRoles) countWrong (λ r. Meets (each r (λ i. roleFields (t .tree .n) d)) then Files (t .tree .n) d) bs (t .met) (c2 .met) m (c2 .value) (role-count .met) (role-count .is)
+      (follows-then (Meets (each (c2 .value) (λ i. roleFields (t .tree .n) d))) (Files (t .tree .n) d) bs (c2 .met) (rs .met) m (roles .met)
       (follows-led (Within 0 mostFiles) countWrong (λ f. Meets (each f (λ i. fileFields (t .tree .n) d)) then Meets (end ∷ [])) bs (rs .met) (c3 .met) m (c3 .value) (file-count .met) (file-count .is)
       (follows-then (Meets (each (c3 .value) (λ i. fileFields (t .tree .n) d))) (Meets (end ∷ [])) bs (c3 .met) (fs .met) m (files .met) (follows-one end bs (fs .met) m ends))))
 

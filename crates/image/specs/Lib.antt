@@ -5,3 +5,5 @@ pub mod Reading
 pub mod Order
 pub mod Standing
 pub mod Places
+pub mod Settled
+pub mod Answers

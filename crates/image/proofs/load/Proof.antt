@@ -1,31 +1,38 @@
+-- `image::load` meets its contract: only an image that is read is granted, and then its policy is there. Assumes nothing.
+use mathlib.Core.Path.{refl}
+use Rattle.securon.specs.Iff.{not-then-false}
+use Rattle.image.specs.Answers.{granted-read}
 use borrow.Author.Needs.{needs}
 use Rattle.image.proofs.load.Statement.{statement}
 use Rattle.image.proofs.load.Tie as tie
-use Rattle.image.proofs.load.Reads as reads
-use Rattle.image.proofs.load.Lts as lts
-use Rattle.answer.proofs.Answer.granted.Reads as granted-reads
-use Rattle.image.proofs.answer_of.Reads as answer-of-reads
-use Rattle.image.proofs.read_image.Reads as read-image-reads
 
--- src/lib.rt:409:9
 read-image-requires : tie.Need-read-image-requires
 read-image-requires c κs = search needs
 
--- src/lib.rt:411:9
 answer-of-requires : tie.Need-answer-of-requires
 answer-of-requires c κs = search needs
 
--- src/lib.rt:412:8
 granted-requires : tie.Need-granted-requires
 granted-requires c κs = search needs
 
--- src/lib.rt:414:9
 returns : tie.Need-returns
-returns c = ?
+returns c = 
+    let r = c .before .before .before .before .read-image in
+    let a = c .before .before .before .answer-of in
+    let g = c .before .before .granted .ensures .0 (c .before .if1 .taken) in
+    let w = granted-read _ (r .result .met) (a .result) (r .ensures .met) (a .ensures) g in
+    record {
+      answers = (r .result .met, r .ensures .met, a .ensures);
+      leaves = record { on-grant = λ _. r .ensures .is (w .0) (w .1); on-refusal = λ n. absurd (n g) };
+    }
 
--- src/lib.rt:406:1
 returns-2 : tie.Need-returns-2
-returns-2 c = ?
+returns-2 c = 
+    let r = c .before .before .before .read-image in
+    record {
+      answers = (r .result .met, r .ensures .met, c .before .before .answer-of .ensures);
+      leaves = record { on-grant = λ g. absurd (not-then-false (c .before .granted .ensures) (c .if1 .left) g); on-refusal = λ _. refl };
+    }
 
 pub load-spec : {M : Type 1} → statement M
 load-spec =
