@@ -7,3 +7,4 @@ pub mod Standing
 pub mod Places
 pub mod Settled
 pub mod Answers
+pub mod OnePolicy
