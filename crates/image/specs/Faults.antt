@@ -131,12 +131,13 @@ fileFields n d =
 unfoldable pub treeAt : List ℕ → ℕ → ℕ → Tree
 treeAt bs at n = record { n = n; parent = 0 ∷ (take (n - 1) (drop at bs) ++ replicate (securons - n) 0) }
 
--- role count 0 to 32 and the roles, file count 0 to 32 and the files; nothing follows
+-- file count 0 to 32, and so many files; nothing follows
+abbrev pub Files : ℕ → ℕ → Stretch
+Files n d = counted 0 mostFiles (λ files. Meets (each files (λ i. fileFields n d)) then Meets (end ∷ []))
+
+-- role count 0 to 32, and so many roles; then the files
 abbrev pub Shelves : ℕ → ℕ → Stretch
-Shelves n d =
-    counted 0 mostRoles (λ roles.
-    Meets (each roles (λ i. roleFields n d)) then counted 0 mostFiles (λ files.
-    Meets (each files (λ i. fileFields n d)) then Meets (end ∷ [])))
+Shelves n d = counted 0 mostRoles (λ roles. Meets (each roles (λ i. roleFields n d)) then Files n d)
 
 -- the same, over the depth of a tree
 abbrev pub Over : Tree → Stretch

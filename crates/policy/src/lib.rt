@@ -158,7 +158,7 @@ fn wide(x: u8) -> usize
 }
 
 // The kind of the expression at place k: T1 and T2 of a file are protection expressions, all others privilege expressions.
-fn kind_at(file: bool, k: usize) -> Kind
+pub fn kind_at(file: bool, k: usize) -> Kind
     ensures { λ r. ⌜ r ≡ kindAt file k ⌝ }
 {
     if file & (k % 2 == 0) {
@@ -387,7 +387,7 @@ fn byte_or_zero(x: &[u8], i: usize) -> u8
 }
 
 // Stores the bytes of x at place k of a shelf, and zero past them; all else stays.
-fn put_bytes(bytes: &mut [u8], k: usize, x: &[u8])
+pub fn put_bytes(bytes: &mut [u8], k: usize, x: &[u8])
     requires { ⌜ (length (now x) ≤ longest) × (longest * k + longest ≤ length (now bytes)) ⌝ }
     ensures { λ r. ⌜ now (bytes .exit) ≡ putBytes (now (bytes .entry)) k (now (x .entry)) ⌝ }
 {
