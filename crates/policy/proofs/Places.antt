@@ -11,7 +11,7 @@ use Rattle.securon.specs.Iff.{and-iff, iff-trans}
 use Rattle.expression.specs.declared.Kind.{Kind}
 use Rattle.expression.specs.Bytes.{longest, Right, InOrder, WrongAt}
 use Rattle.policy.specs.State.{storedAt, roomPast}
-use Rattle.policy.specs.WellFormed.{AllZero, ZeroShelf}
+use Rattle.policy.specs.WellFormed.{AllZero}
 use Rattle.policy.specs.Fine.{PlaceFine, ShelfFine, ShelfIs}
 
 -- a test that says no, where the fact does not hold

@@ -1,20 +1,15 @@
 -- The fresh state is well formed. Assumes nothing.
-use mathlib.Core.Path.{_≡_, refl, sym, ap, _∙_, subst}
-use mathlib.Core.List.{List}
-use Prim.Native.Nat.{ℕ, zero, suc, _*_, _<_, _≤_}
+use mathlib.Core.Path.{_≡_, refl, sym, subst}
+use Prim.Native.Nat.{ℕ, zero, suc, _*_}
 use native.Mathlib.Omega.{arith}
 use borrow.Author.Tests.{ltb-true}
 use lib.Dec.{ltb}
-use lib.ListN.{length, getD, replicate, length-replicate, getD-replicate}
+use lib.ListN.{getD, replicate, length-replicate, getD-replicate}
 use Rattle.securon.specs.Sets.{securons}
-use Rattle.tree.specs.Tree.{HasLevel, root, IsDepth}
+use Rattle.tree.specs.Tree.{root, IsDepth}
 use Rattle.tree.specs.Laws.{one-level}
 use Rattle.expression.specs.Bytes.{longest}
-use Rattle.policy.specs.declared.Role.{Role}
-use Rattle.policy.specs.declared.File.{File}
-use Rattle.policy.specs.declared.Hold.the-variants.{By}
-use Rattle.policy.specs.declared.Slot.{Slot}
-use Rattle.policy.specs.State.{mostRoles, mostFiles, slotCount, rolePlaces, filePlaces, offRole, offFile, freeSlot, noRole, noFile, rootAlone, freshState}
+use Rattle.policy.specs.State.{slotCount, rolePlaces, filePlaces, freeSlot, noRole, noFile, rootAlone, freshState}
 use Rattle.policy.specs.WellFormed.{HasPlaces, ZeroShelf, WellFormed}
 use Rattle.policy.specs.Fine.{SlotIs, Shelving, roleShelves, fileShelves, OneIs, AllAre}
 use Rattle.policy.specs.Whole.{free-held, fine-well-formed}

@@ -1,28 +1,26 @@
 -- A well-formed state stays so where a slot is set, and where two expressions in order are stored. Assumes nothing.
 use mathlib.Core.Path.{_≡_, refl, sym, ap, _∙_, subst}
-use mathlib.Core.Bool.{Bool, true, false, true≢false}
+use mathlib.Core.Bool.{Bool, true}
 use mathlib.Core.List.{List}
-use Prim.Native.Nat.{ℕ, _+_, _*_, _<_, _≤_, _%_}
+use mathlib.Core.Logic.{inl}
+use Prim.Native.Nat.{ℕ, _+_, _*_, _-_, _<_, _≤_}
 use native.Mathlib.Decide.{ℕ-discrete}
 use native.Mathlib.Omega.{arith}
-use borrow.Author.Tests.{lt-ltb}
-use lib.Dec.{ltb}
-use lib.ListN.{length, getD, set, length-set}
+use lib.ListN.{length, getD, take, drop, set, length-set}
 use lib.Seq.{getD-set-same, getD-set-other}
 use Rattle.tree.specs.Tree.{IsDepth}
 use Rattle.expression.specs.declared.Kind.{Kind}
 use Rattle.expression.specs.declared.Kind.the-variants.{Privilege, Protection}
 use Rattle.expression.specs.Bytes.{longest, InOrder}
-use Rattle.policy.specs.declared.File.{File}
 use Rattle.policy.specs.declared.Hold.{Hold}
 use Rattle.policy.specs.declared.Hold.the-variants.{Free, By}
 use Rattle.policy.specs.declared.Slot.{Slot}
 use Rattle.policy.specs.declared.State.{State}
-use Rattle.policy.specs.State.{mostFiles, slotCount, modeCount, filePlaces, offFile, freeSlot, fileAt, holdOf, putBytes, putFile, putPair, withHold, withFile, withPair, withT1T2, withEG, t1Place, t2Place, ePlace, gPlace}
-use Rattle.policy.specs.WellFormed.{HasPlaces, AllZero, WellFormed}
+use Rattle.policy.specs.State.{slotCount, modeCount, filePlaces, freeSlot, fileAt, holdOf, putBytes, putPair, withHold, withPair, withT1T2, withEG, t1Place, ePlace}
+use Rattle.policy.specs.WellFormed.{HasPlaces, AllZero, ZeroShelf, WellFormed}
 use Rattle.policy.specs.Fine.{kindAt, PlaceFine, ShelfFine}
 use Rattle.policy.specs.Parts.{even-kind, odd-kind}
-use Rattle.policy.specs.Shelves.{put-length, stored-put, past-put, stored-other, past-other}
+use Rattle.policy.specs.Shelves.{zero-part, put-length, stored-put, past-put, stored-other, past-other}
 use Rattle.policy.specs.Whole.{free-held, all-used, all-set, fine-well-formed, well-formed-fine}
 
 -- x is put at place k of a shelf
@@ -67,6 +65,18 @@ module _ {places : ℕ} {lens bytes : List ℕ} (p : HasPlaces places lens bytes
       go : Dec (j ≡ k) → PlaceFine (kindAt file j) n d (set lens k (length x)) (putBytes bytes k x) j
       go (yes e) = subst (λ (i : ℕ). PlaceFine (kindAt file i) n d (set lens k (length x)) (putBytes bytes k x) i) (sym e) here
       go (no m) = there m
+
+-- a shelf of zeros is fine: every expression has length 0
+pub zero-fine : (file : Bool) (n d : ℕ) {lens bytes : List ℕ} → ZeroShelf lens bytes → ShelfFine file n d lens bytes
+zero-fine file n d {lens} {bytes} z k l =
+    let none : getD lens k 0 ≡ 0 = z .lengths k in
+    record {
+      part = record {
+        short = omega arith;
+        in-order = subst (λ (m : ℕ). InOrder (kindAt file k) n d (take m (drop (longest * k) bytes))) (sym none) (omega arith, inl refl);
+      };
+      past = zero-part bytes (longest * k + getD lens k 0) (longest - getD lens k 0) (z .room);
+    }
 
 module _ (s : State) (w : WellFormed s) where
   -- a slot is set to hold what is no absent role

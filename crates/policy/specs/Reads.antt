@@ -1,19 +1,17 @@
 -- Put, then read: what is stored reads as stored, and all else as before. Assumes nothing.
-use mathlib.Core.Path.{_≡_, refl, sym, ap, _∙_, subst}
-use mathlib.Core.Bool.{true}
+use mathlib.Core.Path.{_≡_, sym, ap, _∙_}
 use mathlib.Core.List.{List}
-use Prim.Native.Nat.{ℕ, _+_, _*_, _<_, _≤_}
+use Prim.Native.Nat.{ℕ, _+_, _<_, _≤_}
 use native.Mathlib.Decide.{ℕ-discrete}
 use native.Mathlib.Omega.{arith}
 use lib.ListN.{length, getD, set}
 use lib.Seq.{getD-set-same, getD-set-other}
 use Rattle.expression.specs.Bytes.{longest}
-use Rattle.policy.specs.declared.Role.{Role}
 use Rattle.policy.specs.declared.File.{File}
 use Rattle.policy.specs.declared.Hold.{Hold}
 use Rattle.policy.specs.declared.Slot.{Slot}
 use Rattle.policy.specs.declared.State.{State}
-use Rattle.policy.specs.State.{slotCount, modeCount, rolePlaces, filePlaces, storedAt, offFile, freeSlot, fileAt, holdOf, filePart, t1Of, eOf, t2Of, gOf, t1Place, ePlace, t2Place, gPlace, putBytes, putFile, putPair, withHold, withPair, withT1T2, withEG}
+use Rattle.policy.specs.State.{slotCount, modeCount, filePlaces, storedAt, offFile, freeSlot, fileAt, holdOf, filePart, t1Of, eOf, t2Of, gOf, t1Place, ePlace, t2Place, gPlace, putBytes, putFile, putPair, withHold, withPair, withT1T2, withEG}
 use Rattle.policy.specs.WellFormed.{HasPlaces, HasRoom, WellFormed}
 use Rattle.policy.specs.Parts.{file-by-place}
 use Rattle.policy.specs.Shelves.{stored-put, stored-other}

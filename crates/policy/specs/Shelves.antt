@@ -1,10 +1,11 @@
 -- The laws of a shelf: what is put at a place stands there, and every other place stays. Assumes nothing.
-use mathlib.Core.Path.{_≡_, refl, sym, ap, _∙_, subst}
-use mathlib.Core.List.{List, [], _++_}
+use mathlib.Core.Path.{_≡_, sym, ap, _∙_, subst}
+use mathlib.Core.List.{List, _++_}
 use Prim.Native.Nat.{ℕ, _+_, _*_, _-_, _<_, _≤_}
-use native.Mathlib.Decide.{decLt, ℕ-discrete}
+use native.Mathlib.Decide.{decLt}
+use native.Mathlib.Nat.{min-le-left}
 use native.Mathlib.Omega.{arith}
-use lib.ListN.{length, take, drop, getD, set, replicate, length-append, length-replicate, length-drop, length-set, getD-replicate, List·getD-append, List·getD-eq-default}
+use lib.ListN.{length, take, drop, getD, set, replicate, length-append, length-take, length-replicate, length-drop, getD-replicate, List·getD-append, List·getD-eq-default}
 use lib.Seq.{paste, take-all, length-take-le, getD-append-add, getD-take, getD-drop, getD-set-same, getD-set-other, ext-getD}
 use Rattle.expression.specs.Bytes.{longest}
 use Rattle.policy.specs.State.{storedAt, roomPast, padded, putBytes}
@@ -44,6 +45,14 @@ module _ (b : List ℕ) (at m : ℕ) where
 
   part-length : at + m ≤ length b → length (take m (drop at b)) ≡ m
   part-length h = length-take-le m (drop at b) (omega (arith, length-drop at b))
+
+-- a part of zeros is zero
+pub zero-part : (b : List ℕ) (at m : ℕ) → AllZero b → AllZero (take m (drop at b))
+zero-part b at m z i = go (decLt i m)
+  where
+    go : Dec (i < m) → getD (take m (drop at b)) i 0 ≡ 0
+    go (yes l) = part-at b at m i l ∙ z (at + i)
+    go (no n) = past-end (take m (drop at b)) i (omega (arith, length-take m (drop at b), min-le-left m (length (drop at b))))
 
 -- x is put at place k of the bytes b
 module _ (b : List ℕ) (k : ℕ) (x : List ℕ) (hx : length x ≤ longest) (hb : longest * k + longest ≤ length b) where

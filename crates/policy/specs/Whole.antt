@@ -1,6 +1,5 @@
 -- A state is well formed exactly if it is fine part by part. Assumes nothing.
 use mathlib.Core.Path.{_≡_, sym, ap, _∙_, subst}
-use mathlib.Core.Bool.{Bool, true}
 use mathlib.Core.List.{List}
 use Prim.Native.Nat.{ℕ, _<_, _≤_}
 use native.Mathlib.Decide.{decLt, ℕ-discrete}
@@ -16,7 +15,7 @@ use Rattle.policy.specs.declared.Slot.{Slot}
 use Rattle.policy.specs.declared.State.{State}
 use Rattle.policy.specs.State.{slotCount, freeSlot, holdOf}
 use Rattle.policy.specs.WellFormed.{HasPlaces, PartInOrder, ZeroShelf, WellFormed}
-use Rattle.policy.specs.Fine.{kindAt, PlaceFine, ShelfFine, Shelving, roleShelves, fileShelves, OneIs, AllAre, StateFine}
+use Rattle.policy.specs.Fine.{kindAt, PlaceFine, ShelfFine, Shelving, OneIs, AllAre, StateFine}
 use Rattle.policy.specs.Parts.{one-depth, role-by-place, role-by-name, file-by-place, file-by-name}
 
 -- a free slot holds no role

@@ -151,6 +151,7 @@ fn all_zero(s: &[u8]) -> bool
     zero
 }
 
+// A byte as a number that counts.
 fn wide(x: u8) -> usize
     ensures { λ r. ⌜ r ≡ x ⌝ }
 {
@@ -232,6 +233,7 @@ fn shelf_is<'a>(
     all_zero(lens) & all_zero(bytes)
 }
 
+// One role, used or not: a shelf of privilege expressions.
 fn role_is(r: Role, used: bool, n: usize, depth: Level) -> bool
     requires { ⌜ 0 < n ⌝ }
     ensures { λ x. ⌜ (x ≡ true) ↔ OneIs roleShelves used n (depth .0) r ⌝ }
@@ -239,6 +241,7 @@ fn role_is(r: Role, used: bool, n: usize, depth: Level) -> bool
     shelf_is(used, false, n, depth, &r.lens, &r.bytes)
 }
 
+// One file, used or not: a shelf with protection expressions at T1 and T2.
 fn file_is(f: File, used: bool, n: usize, depth: Level) -> bool
     requires { ⌜ 0 < n ⌝ }
     ensures { λ x. ⌜ (x ≡ true) ↔ OneIs fileShelves used n (depth .0) f ⌝ }
@@ -347,7 +350,7 @@ fn examine_tree(tree: Tree) -> Grown
     Grown { ok: false, levels }
 }
 
-// No role, no file: zero.
+// A role that is not there: zero.
 fn no_role() -> Role
     ensures { λ r. ⌜ r ≡ noRole ⌝ }
 {
@@ -357,6 +360,7 @@ fn no_role() -> Role
     }
 }
 
+// A file that is not there: zero.
 fn no_file() -> File
     ensures { λ r. ⌜ r ≡ noFile ⌝ }
 {
@@ -371,9 +375,9 @@ pub fn stored<'a>(lens: &'a [u8], bytes: &'a [u8], k: usize) -> &'a [u8]
     requires { ⌜ (k < length (now lens)) × (getD (now lens) k 0 ≤ longest) × (longest * k + longest ≤ length (now bytes)) ⌝ }
     ensures { λ r. ⌜ now r ≡ storedAt (now (lens .entry)) (now (bytes .entry)) k ⌝ }
 {
-    let at = LONGEST * k;
-    let end = at + wide(lens[k]);
-    &bytes[at..end]
+    let start = LONGEST * k;
+    let end = start + wide(lens[k]);
+    &bytes[start..end]
 }
 
 // The byte at i, and zero past the end.
@@ -499,8 +503,8 @@ impl State {
         requires { ⌜ i < mostRoles ⌝ }
         ensures { λ r. ⌜ r ≡ roleAt self i ⌝ }
     {
-        let roles = self.roles;
-        roles[i]
+        let all = self.roles;
+        all[i]
     }
 
     // File i.
@@ -508,8 +512,8 @@ impl State {
         requires { ⌜ i < mostFiles ⌝ }
         ensures { λ r. ⌜ r ≡ fileAt self i ⌝ }
     {
-        let files = self.files;
-        files[i]
+        let every = self.files;
+        every[i]
     }
 
     // What slot i holds.
@@ -543,11 +547,14 @@ impl State {
     }
 
     // The same state with x stored at place k of a file, and y two places on: T1 with T2, or E with G.
-    pub fn with_pair(self, file: usize, k: usize, x: &[u8], y: &[u8]) -> State
+    pub fn with_pair(mut self, file: usize, k: usize, x: &[u8], y: &[u8]) -> State
         requires { ⌜ (file < mostFiles) × (k + 2 < filePlaces) × (length (now x) ≤ longest) × (length (now y) ≤ longest) ⌝ }
         ensures { λ r. ⌜ r ≡ withPair self file k (now (x .entry)) (now (y .entry)) ⌝ }
     {
-        let f = self.file(file);
-        self.with_file(file, f.put_pair(k, x, y))
+        let files = self.files;
+        let old = files[file];
+        let next = old.put_pair(k, x, y);
+        self.files[file] = next;
+        self
     }
 }

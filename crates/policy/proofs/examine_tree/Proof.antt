@@ -1,5 +1,4 @@
 -- `policy::examine_tree` meets its contract: the levels are had of a tree that is fine. Assumes nothing.
-use mathlib.Core.Path.{sym, _∙_}
 use mathlib.Core.Bool.{false≢true}
 use Rattle.securon.specs.Iff.{not-then-false}
 use Rattle.policy.proofs.Places.{no-iff, yes-iff}

@@ -1,5 +1,5 @@
 -- `policy::put_bytes` meets its contract: so many bytes of the store are done. The measure is what is left of them. Assumes nothing.
-use Prim.Native.Nat.{ℕ, _≤_, _-_}
+use Prim.Native.Nat.{_≤_, _-_}
 use native.Mathlib.Omega.{arith}
 use borrow.Author.Needs.{needs}
 use Rattle.expression.specs.Bytes.{longest}

@@ -8,8 +8,8 @@ use borrow.Author.Needs.{needs}
 use Rattle.policy.proofs.stored.Statement.{statement}
 use Rattle.policy.proofs.stored.Tie as tie
 
-mul-at : tie.Need-mul-at
-mul-at c = search needs
+mul-start : tie.Need-mul-start
+mul-start c = search needs
 
 shared-slice-read-wide : tie.Need-shared-slice-read-wide
 shared-slice-read-wide c = search needs
@@ -39,7 +39,7 @@ pub stored-spec : {M : Type 1} → statement M
 stored-spec =
     tie.close
     (tie.spec
-    mul-at
+    mul-start
     shared-slice-read-wide
     wide-requires
     add-end

@@ -1,5 +1,5 @@
 -- `policy::File::put_pair` meets its contract: one store after the other. Assumes nothing.
-use mathlib.Core.Path.{_≡_, ap, _∙_}
+use mathlib.Core.Path.{ap, _∙_}
 use Prim.Native.Nat.{_+_}
 use Rattle.policy.specs.declared.File.{File}
 use Rattle.policy.specs.State.{putFile}
