@@ -86,8 +86,7 @@ module _ {bs : List ℕ} {from : Met} {u : ℕ} {up : List ℕ} {m : Met} (was :
       byte a b p q i h (yes e) =
           let w = before b q in
           let c : w .0 ≡ a + i = omega (arith, was .end a (w .0) p (w .1)) in
-          let k : i + 1 ≡ u = omega arith in
-          (
+          let k : i + 1 ≡ u = omega arith in (
             omega (arith, w .2),
             ap (λ (x : ℕ). getD (set up u (r .value)) x 0) k ∙ here ∙ read .is (w .0) b (w .1) q ∙ ap (λ (x : ℕ). getD bs x 0) c,
           )

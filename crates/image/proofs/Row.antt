@@ -11,7 +11,7 @@ use lib.ListN.{length, getD, set, replicate, length-set, length-replicate, getD-
 use lib.Seq.{getD-set-same, getD-set-other}
 use Rattle.policy.specs.State.{rolePlaces, filePlaces, noRole, noFile}
 use Rattle.policy.specs.WellFormed.{HasPlaces}
-use Rattle.policy.specs.Fine.{ShelfFine, RoleIs, FileIs}
+use Rattle.policy.specs.Fine.{ShelfFine, OneIs, roleShelves, fileShelves}
 use Rattle.policy.specs.Fresh.{zero-places, zero-shelf}
 use Rattle.image.specs.declared.Met.{Met}
 use Rattle.image.specs.declared.Met.the-variants.{Read, Refused}
@@ -81,14 +81,14 @@ module _ {A : Type 0} (off : A) (bytesOf : A → List ℕ) (Is : Bool → A → 
 pub role-read : (bs : List ℕ) (from : Met) (n d : ℕ) (r : RoleMet) → ShelfRead bs from false n d rolePlaces rolePlaces (r .role .lens) (r .role .bytes) (r .met) → RoleRead bs from n d r
 role-read bs from n d r w = record {
   met = subst (λ (fs : List Field). Follows from (Meets fs) bs (r .met)) (sym (role-fields n d)) (w .met);
-  is = record { places = w .room; shelf = record { fine = λ _. w .fine; zero = λ e. absurd (true≢false e) } };
+  is = record { room = w .room; fine = λ _. w .fine; zero = λ e. absurd (true≢false e) };
   stands = subst (λ (l : List ℕ). Between bs from l (r .met)) (sym (role-bytes (r .role))) (w .stands);
 }
 
 pub file-read : (bs : List ℕ) (from : Met) (n d : ℕ) (r : FileMet) → ShelfRead bs from true n d filePlaces filePlaces (r .file .lens) (r .file .bytes) (r .met) → FileRead bs from n d r
 file-read bs from n d r w = record {
   met = subst (λ (fs : List Field). Follows from (Meets fs) bs (r .met)) (sym (file-fields n d)) (w .met);
-  is = record { places = w .room; shelf = record { fine = λ _. w .fine; zero = λ e. absurd (true≢false e) } };
+  is = record { room = w .room; fine = λ _. w .fine; zero = λ e. absurd (true≢false e) };
   stands = subst (λ (l : List ℕ). Between bs from l (r .met)) (sym (file-bytes (r .file))) (w .stands);
 }
 
@@ -97,8 +97,8 @@ pub fine-none : (file : Bool) (n d places : ℕ) → ShelfFine file n d (replica
 fine-none file n d places = zero-fine file n d _ _ (zero-shelf places)
 
 -- room that is not used
-pub no-role : (n d : ℕ) → RoleIs false n d noRole
-no-role n d = record { places = zero-places rolePlaces; shelf = record { fine = λ e. absurd (true≢false (sym e)); zero = λ _. zero-shelf rolePlaces } }
+pub no-role : (n d : ℕ) → OneIs roleShelves false n d noRole
+no-role n d = record { room = zero-places rolePlaces; fine = λ e. absurd (true≢false (sym e)); zero = λ _. zero-shelf rolePlaces }
 
-pub no-file : (n d : ℕ) → FileIs false n d noFile
-no-file n d = record { places = zero-places filePlaces; shelf = record { fine = λ e. absurd (true≢false (sym e)); zero = λ _. zero-shelf filePlaces } }
+pub no-file : (n d : ℕ) → OneIs fileShelves false n d noFile
+no-file n d = record { room = zero-places filePlaces; fine = λ e. absurd (true≢false (sym e)); zero = λ _. zero-shelf filePlaces }

@@ -124,8 +124,7 @@ module _ (bs : List ℕ) (m : Met) (file : Bool) (n d k : ℕ) (lens bytes : Lis
         met = met;
         stored = λ i j s t.
             let ei : a ≡ i = same-end p s in
-            let ej : b ≡ j = same-end q t in
-            (
+            let ej : b ≡ j = same-end q t in (
               take (b - (a + 1)) (drop (a + 1) bs),
               f .in-order,
               subst (λ (y : ℕ). Stands bs i (expressionBytes (take (b - (a + 1)) (drop (a + 1) bs))) y) ej (subst (λ (y : ℕ). Stands bs y (expressionBytes (take (b - (a + 1)) (drop (a + 1) bs))) b) ei (f .stands)),

@@ -21,7 +21,7 @@ use Rattle.policy.specs.declared.Slot.{Slot}
 use Rattle.policy.specs.declared.State.{State}
 use Rattle.policy.specs.State.{mostRoles, mostFiles, slotCount, rolePlaces, filePlaces, offRole, offFile, freeSlot, storedAt, roleAt, fileAt, holdOf}
 use Rattle.policy.specs.WellFormed.{HasPlaces, AllZero, ZeroShelf, WellFormed}
-use Rattle.policy.specs.Fine.{PlaceFine, ShelfFine, RoleIs, FileIs, TreeFine, StateFine}
+use Rattle.policy.specs.Fine.{PlaceFine, ShelfFine, TreeFine, StateFine, OneIs, roleShelves, fileShelves}
 use Rattle.policy.specs.Whole.{well-formed-fine}
 use Rattle.image.specs.Image.{each, parentBytes, expressionBytes, roleBytes, fileBytes, imageOf, IsImage}
 use Rattle.image.specs.Reading.{shelfBytes}
@@ -120,45 +120,45 @@ module _ {places : ℕ} {lens bytes lens' bytes' : List ℕ} (p : HasPlaces plac
 
 -- rows of two policies, of one count
 module _ {A : Type 0} (off : A) (bytesOf : A → List ℕ) (Is It : Bool → A → Type 0) (most : ℕ)
-  (used : (x y : A) → Is true x → It true y → (r q : List ℕ) → bytesOf x ++ r ≡ bytesOf y ++ q → (x ≡ y) × (r ≡ q))
-  (unused : (x y : A) → Is false x → It false y → x ≡ y)
+    (used : (x y : A) → Is true x → It true y → (r q : List ℕ) → bytesOf x ++ r ≡ bytesOf y ++ q → (x ≡ y) × (r ≡ q))
+    (unused : (x y : A) → Is false x → It false y → x ≡ y)
   where
-  rows-same : (count : ℕ) (xs ys : List A) → count ≤ most → length xs ≡ most → length ys ≡ most → ((i : ℕ) → i < most → Is (ltb i count) (getD xs i off)) → ((i : ℕ) → i < most → It (ltb i count) (getD ys i off)) → (r q : List ℕ) → each count (λ i. bytesOf (getD xs i off)) ++ r ≡ each count (λ i. bytesOf (getD ys i off)) ++ q → (xs ≡ ys) × (r ≡ q)
-  rows-same count xs ys few lx ly isx isy r q w =
-      let v = each-splits count (λ (i : ℕ). bytesOf (getD xs i off)) (λ (i : ℕ). bytesOf (getD ys i off)) (λ i h a b e. let u = at-used i h a b e in (ap bytesOf (u .0), u .1)) r q w in
-      (ext-getD off xs ys (lx ∙ sym ly) (λ i h. go i (omega arith) (decLt i count) (v .0)), v .1)
-    where
-      at-used : (i : ℕ) → i < count → (a b : List ℕ) → bytesOf (getD xs i off) ++ a ≡ bytesOf (getD ys i off) ++ b → (getD xs i off ≡ getD ys i off) × (a ≡ b)
-      at-used i h a b e = used (getD xs i off) (getD ys i off)
-          (subst (λ (u : Bool). Is u (getD xs i off)) (lt-ltb i count h) (isx i (omega arith)))
-          (subst (λ (u : Bool). It u (getD ys i off)) (lt-ltb i count h) (isy i (omega arith)))
-          a b e
+    rows-same : (count : ℕ) (xs ys : List A) → count ≤ most → length xs ≡ most → length ys ≡ most → ((i : ℕ) → i < most → Is (ltb i count) (getD xs i off)) → ((i : ℕ) → i < most → It (ltb i count) (getD ys i off)) → (r q : List ℕ) → each count (λ i. bytesOf (getD xs i off)) ++ r ≡ each count (λ i. bytesOf (getD ys i off)) ++ q → (xs ≡ ys) × (r ≡ q)
+    rows-same count xs ys few lx ly isx isy r q w =
+        let v = each-splits count (λ (i : ℕ). bytesOf (getD xs i off)) (λ (i : ℕ). bytesOf (getD ys i off)) (λ i h a b e. let u = at-used i h a b e in (ap bytesOf (u .0), u .1)) r q w in
+        (ext-getD off xs ys (lx ∙ sym ly) (λ i h. go i (omega arith) (decLt i count) (v .0)), v .1)
+      where
+        at-used : (i : ℕ) → i < count → (a b : List ℕ) → bytesOf (getD xs i off) ++ a ≡ bytesOf (getD ys i off) ++ b → (getD xs i off ≡ getD ys i off) × (a ≡ b)
+        at-used i h a b e = used (getD xs i off) (getD ys i off)
+            (subst (λ (u : Bool). Is u (getD xs i off)) (lt-ltb i count h) (isx i (omega arith)))
+            (subst (λ (u : Bool). It u (getD ys i off)) (lt-ltb i count h) (isy i (omega arith)))
+            a b e
 
-      go : (i : ℕ) → i < most → Dec (i < count) → ((j : ℕ) → j < count → bytesOf (getD xs j off) ≡ bytesOf (getD ys j off)) → getD xs i off ≡ getD ys i off
-      go i h (yes l) same = at-used i l [] [] (ap (λ (x : List ℕ). x ++ []) (same i l)) .0
-      go i h (no n) same = unused (getD xs i off) (getD ys i off)
-          (subst (λ (u : Bool). Is u (getD xs i off)) (le-ltb i count (omega arith)) (isx i h))
-          (subst (λ (u : Bool). It u (getD ys i off)) (le-ltb i count (omega arith)) (isy i h))
+        go : (i : ℕ) → i < most → Dec (i < count) → ((j : ℕ) → j < count → bytesOf (getD xs j off) ≡ bytesOf (getD ys j off)) → getD xs i off ≡ getD ys i off
+        go i h (yes l) same = at-used i l [] [] (ap (λ (x : List ℕ). x ++ []) (same i l)) .0
+        go i h (no n) same = unused (getD xs i off) (getD ys i off)
+            (subst (λ (u : Bool). Is u (getD xs i off)) (le-ltb i count (omega arith)) (isx i h))
+            (subst (λ (u : Bool). It u (getD ys i off)) (le-ltb i count (omega arith)) (isy i h))
 
 module _ {n d m e : ℕ} where
-  role-used : (x y : Role) → RoleIs true n d x → RoleIs true m e y → (r q : List ℕ) → roleBytes x ++ r ≡ roleBytes y ++ q → (x ≡ y) × (r ≡ q)
+  role-used : (x y : Role) → OneIs roleShelves true n d x → OneIs roleShelves true m e y → (r q : List ℕ) → roleBytes x ++ r ≡ roleBytes y ++ q → (x ≡ y) × (r ≡ q)
   role-used x y p q r s w =
-      let v = shelf-splits (p .places) (q .places) false (p .shelf .fine refl) (q .shelf .fine refl) r s (ap (λ (l : List ℕ). l ++ r) (sym (role-bytes x)) ∙ w ∙ ap (λ (l : List ℕ). l ++ s) (role-bytes y)) in
+      let v = shelf-splits (p .room) (q .room) false (p .fine refl) (q .fine refl) r s (ap (λ (l : List ℕ). l ++ r) (sym (role-bytes x)) ∙ w ∙ ap (λ (l : List ℕ). l ++ s) (role-bytes y)) in
       (ap₂ (λ (l b : List ℕ). record { lens = l; bytes = b }) (v .0 .0) (v .0 .1), v .1)
 
-  role-unused : (x y : Role) → RoleIs false n d x → RoleIs false m e y → x ≡ y
+  role-unused : (x y : Role) → OneIs roleShelves false n d x → OneIs roleShelves false m e y → x ≡ y
   role-unused x y p q =
-      let v = zero-shelves (p .places) (q .places) (p .shelf .zero refl) (q .shelf .zero refl) in
+      let v = zero-shelves (p .room) (q .room) (p .zero refl) (q .zero refl) in
       ap₂ (λ (l b : List ℕ). record { lens = l; bytes = b }) (v .0) (v .1)
 
-  file-used : (x y : File) → FileIs true n d x → FileIs true m e y → (r q : List ℕ) → fileBytes x ++ r ≡ fileBytes y ++ q → (x ≡ y) × (r ≡ q)
+  file-used : (x y : File) → OneIs fileShelves true n d x → OneIs fileShelves true m e y → (r q : List ℕ) → fileBytes x ++ r ≡ fileBytes y ++ q → (x ≡ y) × (r ≡ q)
   file-used x y p q r s w =
-      let v = shelf-splits (p .places) (q .places) true (p .shelf .fine refl) (q .shelf .fine refl) r s (ap (λ (l : List ℕ). l ++ r) (sym (file-bytes x)) ∙ w ∙ ap (λ (l : List ℕ). l ++ s) (file-bytes y)) in
+      let v = shelf-splits (p .room) (q .room) true (p .fine refl) (q .fine refl) r s (ap (λ (l : List ℕ). l ++ r) (sym (file-bytes x)) ∙ w ∙ ap (λ (l : List ℕ). l ++ s) (file-bytes y)) in
       (ap₂ (λ (l b : List ℕ). record { lens = l; bytes = b }) (v .0 .0) (v .0 .1), v .1)
 
-  file-unused : (x y : File) → FileIs false n d x → FileIs false m e y → x ≡ y
+  file-unused : (x y : File) → OneIs fileShelves false n d x → OneIs fileShelves false m e y → x ≡ y
   file-unused x y p q =
-      let v = zero-shelves (p .places) (q .places) (p .shelf .zero refl) (q .shelf .zero refl) in
+      let v = zero-shelves (p .room) (q .room) (p .zero refl) (q .zero refl) in
       ap₂ (λ (l b : List ℕ). record { lens = l; bytes = b }) (v .0) (v .1)
 
 -- the parents
@@ -195,9 +195,9 @@ one-policy bytes s t p q =
     let en : s .tree .n ≡ t .tree .n = ap (λ (l : List ℕ). getD l 5 0) w in
     let t0 = same-length (parentBytes (s .tree)) (parentBytes (t .tree)) (parents-length (s .tree) (f .tree) ∙ ap (λ (i : ℕ). i - 1) en ∙ sym (parents-length (t .tree) (g .tree))) _ _ (ap (drop 6) w) in
     let er : s .nroles ≡ t .nroles = ap (λ (l : List ℕ). getD l 0 0) (t0 .1) in
-    let r0 = rows-same offRole roleBytes (λ u. RoleIs u (s .tree .n) (p .well-formed .depth)) (λ u. RoleIs u (t .tree .n) (q .well-formed .depth)) mostRoles role-used role-unused (t .nroles) (s .roles) (t .roles) (g .role-count) (f .roles .room) (g .roles .room) (subst (λ (c : ℕ). (i : ℕ) → i < mostRoles → RoleIs (ltb i c) (s .tree .n) (p .well-formed .depth) (roleAt s i)) er (f .roles .each)) (g .roles .each) _ _ (subst (λ (c : ℕ). each c (λ i. roleBytes (roleAt s i)) ++ (s .nfiles ∷ each (s .nfiles) (λ i. fileBytes (fileAt s i))) ≡ each (t .nroles) (λ i. roleBytes (roleAt t i)) ++ (t .nfiles ∷ each (t .nfiles) (λ i. fileBytes (fileAt t i)))) er (ap (drop 1) (t0 .1))) in
+    let r0 = rows-same offRole roleBytes (λ u. OneIs roleShelves u (s .tree .n) (p .well-formed .depth)) (λ u. OneIs roleShelves u (t .tree .n) (q .well-formed .depth)) mostRoles role-used role-unused (t .nroles) (s .roles) (t .roles) (g .role-count) (f .roles .room) (g .roles .room) (subst (λ (c : ℕ). (i : ℕ) → i < mostRoles → OneIs roleShelves (ltb i c) (s .tree .n) (p .well-formed .depth) (roleAt s i)) er (f .roles .each)) (g .roles .each) _ _ (subst (λ (c : ℕ). each c (λ i. roleBytes (roleAt s i)) ++ (s .nfiles ∷ each (s .nfiles) (λ i. fileBytes (fileAt s i))) ≡ each (t .nroles) (λ i. roleBytes (roleAt t i)) ++ (t .nfiles ∷ each (t .nfiles) (λ i. fileBytes (fileAt t i)))) er (ap (drop 1) (t0 .1))) in
     let ef : s .nfiles ≡ t .nfiles = ap (λ (l : List ℕ). getD l 0 0) (r0 .1) in
-    let f0 = rows-same offFile fileBytes (λ u. FileIs u (s .tree .n) (p .well-formed .depth)) (λ u. FileIs u (t .tree .n) (q .well-formed .depth)) mostFiles file-used file-unused (t .nfiles) (s .files) (t .files) (g .file-count) (f .files .room) (g .files .room) (subst (λ (c : ℕ). (i : ℕ) → i < mostFiles → FileIs (ltb i c) (s .tree .n) (p .well-formed .depth) (fileAt s i)) ef (f .files .each)) (g .files .each) [] [] (ap (λ (l : List ℕ). l ++ []) (subst (λ (c : ℕ). each c (λ i. fileBytes (fileAt s i)) ≡ each (t .nfiles) (λ i. fileBytes (fileAt t i))) ef (ap (drop 1) (r0 .1)))) in
+    let f0 = rows-same offFile fileBytes (λ u. OneIs fileShelves u (s .tree .n) (p .well-formed .depth)) (λ u. OneIs fileShelves u (t .tree .n) (q .well-formed .depth)) mostFiles file-used file-unused (t .nfiles) (s .files) (t .files) (g .file-count) (f .files .room) (g .files .room) (subst (λ (c : ℕ). (i : ℕ) → i < mostFiles → OneIs fileShelves (ltb i c) (s .tree .n) (p .well-formed .depth) (fileAt s i)) ef (f .files .each)) (g .files .each) [] [] (ap (λ (l : List ℕ). l ++ []) (subst (λ (c : ℕ). each c (λ i. fileBytes (fileAt s i)) ≡ each (t .nfiles) (λ i. fileBytes (fileAt t i))) ef (ap (drop 1) (r0 .1)))) in
     state-same s t (tree-same (s .tree) (t .tree) (f .tree) (g .tree) en (t0 .0)) er (r0 .0) ef (f0 .0) slots
   where
     slots : s .slots ≡ t .slots

@@ -9,7 +9,7 @@ use Rattle.tree.specs.declared.Tree.{Tree}
 use Rattle.expression.specs.Bytes.{longest, InOrder}
 use Rattle.policy.specs.State.{mostRoles, mostFiles, storedAt, offRole, offFile, putBytes}
 use Rattle.policy.specs.WellFormed.{HasPlaces}
-use Rattle.policy.specs.Fine.{kindAt, ShelfFine, RoleIs, FileIs, TreeFine}
+use Rattle.policy.specs.Fine.{kindAt, ShelfFine, TreeFine, OneIs, roleShelves, fileShelves}
 use Rattle.image.specs.declared.Met.{Met}
 use Rattle.image.specs.declared.Met.the-variants.{Read, Refused}
 use Rattle.image.specs.declared.ByteMet.{ByteMet}
@@ -72,12 +72,12 @@ pub record ShelfRead (bs : List ℕ) (from : Met) (file : Bool) (n d places k : 
 
 pub record RoleRead (bs : List ℕ) (from : Met) (n d : ℕ) (r : RoleMet) : Type 0 where
   pub met : Follows from (Meets (roleFields n d)) bs (r .met)
-  pub is : RoleIs true n d (r .role)
+  pub is : OneIs roleShelves true n d (r .role)
   pub stands : Between bs from (roleBytes (r .role)) (r .met)
 
 pub record FileRead (bs : List ℕ) (from : Met) (n d : ℕ) (r : FileMet) : Type 0 where
   pub met : Follows from (Meets (fileFields n d)) bs (r .met)
-  pub is : FileIs true n d (r .file)
+  pub is : OneIs fileShelves true n d (r .file)
   pub stands : Between bs from (fileBytes (r .file)) (r .met)
 
 -- the first i of the room for rows, each of these fields: those are used and the others zero, and what is read stands in them
@@ -88,10 +88,10 @@ pub record Rows {A : Type 0} (off : A) (bytesOf : A → List ℕ) (Is : Bool →
   pub stands : Between bs from (each i (λ j. bytesOf (getD rows j off))) r
 
 abbrev pub RolesRead : List ℕ → Met → ℕ → ℕ → ℕ → RolesMet → Type 0
-RolesRead bs from count n d r = Rows offRole roleBytes (λ used. RoleIs used n d) (roleFields n d) mostRoles bs from count (r .roles) (r .met)
+RolesRead bs from count n d r = Rows offRole roleBytes (λ used. OneIs roleShelves used n d) (roleFields n d) mostRoles bs from count (r .roles) (r .met)
 
 abbrev pub FilesRead : List ℕ → Met → ℕ → ℕ → ℕ → FilesMet → Type 0
-FilesRead bs from count n d r = Rows offFile fileBytes (λ used. FileIs used n d) (fileFields n d) mostFiles bs from count (r .files) (r .met)
+FilesRead bs from count n d r = Rows offFile fileBytes (λ used. OneIs fileShelves used n d) (fileFields n d) mostFiles bs from count (r .files) (r .met)
 
 pub record ImageRead (bs : List ℕ) (r : ImageMet) : Type 0 where
   pub met : Whole bs 0 (r .met)

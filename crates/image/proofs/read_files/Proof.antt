@@ -3,7 +3,7 @@ use Prim.Native.Nat.{ℕ, _≤_, _-_}
 use native.Mathlib.Omega.{arith}
 use borrow.Author.Needs.{needs}
 use Rattle.policy.specs.State.{mostFiles, offFile, noFile}
-use Rattle.policy.specs.Fine.{FileIs}
+use Rattle.policy.specs.Fine.{OneIs, roleShelves, fileShelves}
 use Rattle.image.specs.Image.{fileBytes}
 use Rattle.image.specs.Faults.{fileFields}
 use Rattle.image.specs.Reading.{Rows}
@@ -13,7 +13,7 @@ use Rattle.image.proofs.read_files.Tie as tie
 
 abbrev Inv-loop : tie.InvT-loop
 Inv-loop image count n depth files₀ met₀ i₀ files met i =
-    (i ≤ count) × Rows offFile fileBytes (λ used. FileIs used n (depth .0)) (fileFields n (depth .0)) mostFiles image met₀ i files met
+    (i ≤ count) × Rows offFile fileBytes (λ used. OneIs fileShelves used n (depth .0)) (fileFields n (depth .0)) mostFiles image met₀ i files met
 
 abbrev μ-loop : tie.MeasureT-loop
 μ-loop image count n depth files₀ met₀ i₀ files met i = count - i
@@ -37,7 +37,7 @@ loop-less : tie.Need-loop-less Inv-loop μ-loop
 loop-less c = omega arith
 
 loop-again : tie.Need-loop-again Inv-loop μ-loop
-loop-again c = 
+loop-again c =
     let w = c .before .before .before .loop .inv in
     let r = c .before .read-file .ensures in
     (omega arith, rows-more _ _ _ _ _ _ _ (w .1) (omega (arith, c .before .before .before .before .before .pre .1)) _ _ (r .met) (r .is) (r .stands))

@@ -3,7 +3,7 @@ use Prim.Native.Nat.{ℕ, _≤_, _-_}
 use native.Mathlib.Omega.{arith}
 use borrow.Author.Needs.{needs}
 use Rattle.policy.specs.State.{mostRoles, offRole, noRole}
-use Rattle.policy.specs.Fine.{RoleIs}
+use Rattle.policy.specs.Fine.{OneIs, roleShelves, fileShelves}
 use Rattle.image.specs.Image.{roleBytes}
 use Rattle.image.specs.Faults.{roleFields}
 use Rattle.image.specs.Reading.{Rows}
@@ -13,7 +13,7 @@ use Rattle.image.proofs.read_roles.Tie as tie
 
 abbrev Inv-loop : tie.InvT-loop
 Inv-loop image count n depth roles₀ met₀ i₀ roles met i =
-    (i ≤ count) × Rows offRole roleBytes (λ used. RoleIs used n (depth .0)) (roleFields n (depth .0)) mostRoles image met₀ i roles met
+    (i ≤ count) × Rows offRole roleBytes (λ used. OneIs roleShelves used n (depth .0)) (roleFields n (depth .0)) mostRoles image met₀ i roles met
 
 abbrev μ-loop : tie.MeasureT-loop
 μ-loop image count n depth roles₀ met₀ i₀ roles met i = count - i
@@ -37,7 +37,7 @@ loop-less : tie.Need-loop-less Inv-loop μ-loop
 loop-less c = omega arith
 
 loop-again : tie.Need-loop-again Inv-loop μ-loop
-loop-again c = 
+loop-again c =
     let w = c .before .before .before .loop .inv in
     let r = c .before .read-role .ensures in
     (omega arith, rows-more _ _ _ _ _ _ _ (w .1) (omega (arith, c .before .before .before .before .before .pre .1)) _ _ (r .met) (r .is) (r .stands))
