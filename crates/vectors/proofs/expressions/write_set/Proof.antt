@@ -1,0 +1,74 @@
+-- `vectors::expressions::write_set` ends and reads no mark past the last. Assumes nothing.
+use mathlib.Core.Path.{_≡_}
+use Prim.Native.Nat.{ℕ, _≤_, _-_}
+use native.Mathlib.Omega.{arith}
+use borrow.Author.Needs.{needs}
+use lib.ListN.{length}
+use Rattle.securon.specs.Sets.{securons}
+use Rattle.vectors.proofs.expressions.write_set.Statement.{statement}
+use Rattle.vectors.proofs.expressions.write_set.Tie as tie
+
+abbrev Inv-loop : tie.InvT-loop
+Inv-loop set k₀ t5 t6 k = (k ≤ securons) × (length t5 ≡ 1) × (length t6 ≡ 1)
+
+abbrev μ-loop : tie.MeasureT-loop
+μ-loop set k₀ t5 t6 k = securons - k
+
+slice-aggregate-write : tie.Need-slice-aggregate-write Inv-loop μ-loop
+slice-aggregate-write c = search needs
+
+write-requires : tie.Need-write-requires Inv-loop μ-loop
+write-requires c κs = search needs
+
+loop-holds : tie.Need-loop-holds Inv-loop μ-loop
+loop-holds c = search needs
+
+element-copy-out-if1 : tie.Need-element-copy-out-if1 Inv-loop μ-loop
+element-copy-out-if1 c = omega arith
+
+slice-aggregate-write-2 : tie.Need-slice-aggregate-write-2 Inv-loop μ-loop
+slice-aggregate-write-2 c = search needs
+
+write-requires-2 : tie.Need-write-requires-2 Inv-loop μ-loop
+write-requires-2 c κs = search needs
+
+print-decimal-requires : tie.Need-print-decimal-requires Inv-loop μ-loop
+print-decimal-requires c κs = search needs
+
+add-k : tie.Need-add-k Inv-loop μ-loop
+add-k c = omega arith
+
+loop-less : tie.Need-loop-less Inv-loop μ-loop
+loop-less c = omega arith
+
+loop-again : tie.Need-loop-again Inv-loop μ-loop
+loop-again c = search needs
+
+slice-aggregate-write-3 : tie.Need-slice-aggregate-write-3 Inv-loop μ-loop
+slice-aggregate-write-3 c = search needs
+
+write-requires-3 : tie.Need-write-requires-3 Inv-loop μ-loop
+write-requires-3 c κs = search needs
+
+returns : tie.Need-returns Inv-loop μ-loop
+returns c = search needs
+
+pub write-set-spec : {M : Type 1} → statement M
+write-set-spec =
+    tie.close
+    (tie.spec
+    Inv-loop
+    μ-loop
+    slice-aggregate-write
+    write-requires
+    loop-holds
+    element-copy-out-if1
+    slice-aggregate-write-2
+    write-requires-2
+    print-decimal-requires
+    add-k
+    loop-less
+    loop-again
+    slice-aggregate-write-3
+    write-requires-3
+    returns)

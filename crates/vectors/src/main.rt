@@ -1,0 +1,6 @@
+// Cases by hand, run and compared: what is written must be crates/vectors/stdout, which was made from the papers and not by this program.
+mod expressions;
+
+fn main() {
+    expressions::run();
+}
