@@ -1,0 +1,14 @@
+pub mod Trace
+pub mod Exactly
+pub mod TraceLaws
+pub mod MoveLaws
+pub mod Demand2
+pub mod Demand3
+pub mod Builders
+pub mod Sample
+pub mod Steps
+pub mod Examples
+pub mod Sound
+pub mod Empty
+pub mod Starred
+pub mod StarredLaws

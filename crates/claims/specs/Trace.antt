@@ -1,0 +1,107 @@
+-- Requests one after another: what a run of them is, which files content moves between, and what "nobody passes" means. Definitions only.
+use mathlib.Core.Path.{_≡_}
+use mathlib.Core.List.{List, [], _∷_, _++_}
+use mathlib.Core.Logic.{_⊎_}
+use Prim.Native.Nat.{ℕ, _+_, _≤_}
+use lib.ListN.{length}
+use Rattle.answer.specs.declared.Answer.{Answer}
+use Rattle.answer.specs.Answers.{Granted}
+use Rattle.securon.specs.Sets.{Set, _⊆_, Apart}
+use Rattle.expression.specs.Bytes.{SET}
+use Rattle.policy.specs.declared.State.{State}
+use Rattle.policy.specs.State.{read, write, eOf, gOf}
+use Rattle.image.specs.Load.{Loads}
+use Rattle.gate.specs.Requests.{Begins, Ends, Asks, Changes, Bypasses}
+
+-- a request with its arguments, whatever they are
+pub data Request : Type 0 where
+  load : List ℕ → Request
+  begin : ℕ → ℕ → Request
+  end : ℕ → Request
+  ask : ℕ → ℕ → ℕ → Request
+  change : ℕ → ℕ → ℕ → List ℕ → List ℕ → Request
+  bypass : ℕ → ℕ → ℕ → List ℕ → List ℕ → Request
+
+-- in the state s the request gives the answer a and leaves the state t: each line is the promise of the function that serves it
+abbrev pub Step : State → Request → Answer → State → Type 0
+Step s (load image) a t = Loads image s (record { answer = a; state = t })
+Step s (begin slot role) a t = Begins s slot role (record { answer = a; state = t })
+Step s (end slot) a t = Ends s slot (record { answer = a; state = t })
+Step s (ask slot file mode) a t = Asks s slot file mode a × (t ≡ s)
+Step s (change slot file mode t1 t2) a t = Changes s slot file mode t1 t2 (record { answer = a; state = t })
+Step s (bypass slot file mode e g) a t = Bypasses s slot file mode e g (record { answer = a; state = t })
+
+-- a request that was made, and its answer
+pub record Event : Type 0 where
+  pub request : Request
+  pub answer : Answer
+
+-- from s these requests, with these answers, lead to t
+pub data Run : State → List Event → State → Type 0 where
+  none : {s : State} → Run s [] s
+  next : {s m t : State} {e : Event} {es : List Event} → Step s (e .request) (e .answer) m → Run m es t → Run s (e ∷ es) t
+
+-- e is the request q, granted
+pub record Grants (e : Event) (q : Request) : Type 0 where
+  pub was : e .request ≡ q
+  pub granted : Granted (e .answer)
+
+-- a load or a bypass
+abbrev pub Resets : Request → Type 0
+Resets (load image) = Unit {0}
+Resets (begin slot role) = ⊥
+Resets (end slot) = ⊥
+Resets (ask slot file mode) = ⊥
+Resets (change slot file mode t1 t2) = ⊥
+Resets (bypass slot file mode e g) = Unit {0}
+
+-- no load and no bypass is granted in it; refused ones may stand anywhere
+abbrev pub Quiet : List Event → Type 0
+Quiet [] = Unit {0}
+Quiet (e ∷ es) = (Granted (e .answer) → Resets (e .request) → ⊥) × Quiet es
+
+-- no session of that slot ends in it
+abbrev pub NoEnd : ℕ → List Event → Type 0
+NoEnd slot [] = Unit {0}
+NoEnd slot (e ∷ es) = (Grants e (end slot) → ⊥) × NoEnd slot es
+
+-- content moves from file a to file b: one session, from its granted begin and before its end, has a granted Read of a and later a granted Write of b
+pub record Move (es : List Event) (a b : ℕ) : Type 0 where
+  pub slot : ℕ
+  pub role : ℕ
+  pub earlier : List Event
+  pub begins : Event
+  pub opened : List Event
+  pub reads : Event
+  pub between : List Event
+  pub writes : Event
+  pub later : List Event
+  pub in-order : es ≡ earlier ++ (begins ∷ (opened ++ (reads ∷ (between ++ (writes ∷ later)))))
+  pub is-begin : Grants begins (begin slot role)
+  pub is-read : Grants reads (ask slot a read)
+  pub is-write : Grants writes (ask slot b write)
+  pub not-ended-before : NoEnd slot opened
+  pub not-ended-between : NoEnd slot between
+
+-- how many requests were made before its Read, and up to and with its Write
+abbrev pub readAfter : {es : List Event} {a b : ℕ} → Move es a b → ℕ
+readAfter m = length (m .earlier) + (1 + length (m .opened))
+
+abbrev pub writtenBy : {es : List Event} {a b : ℕ} → Move es a b → ℕ
+writtenBy m = readAfter m + (1 + length (m .between)) + 1
+
+-- content of a has reached b once k requests were made: moves lead there in time, each Read after the Write before it. A file reaches itself
+pub data ReachedBy (es : List Event) (a : ℕ) : ℕ → ℕ → Type 0 where
+  itself : {k : ℕ} → ReachedBy es a k a
+  moved : {k c b : ℕ} → ReachedBy es a k c → (m : Move es c b) → k ≤ readAfter m → ReachedBy es a (writtenBy m) b
+
+-- content of a could have moved to b, any number of files long
+abbrev pub Reached : List Event → ℕ → ℕ → Type 0
+Reached es a b = (k : ℕ) × ReachedBy es a k b
+
+-- the indelible read conditions of a file, for sets V+, V-, M1, M2 whatever they are: E within V+, G apart from V-, E within M1, G within M2, for its Read row. Mutable parts have no say
+pub record PassesIndelible (s : State) (file : ℕ) (vPlus vMinus m1 m2 : Set) : Type 0 where
+  pub e-held : SET (s .tree) (eOf s file read) ⊆ vPlus
+  pub g-apart : Apart vMinus (SET (s .tree) (gOf s file read))
+  pub e-mediated : SET (s .tree) (eOf s file read) ⊆ m1
+  pub g-mediated : SET (s .tree) (gOf s file read) ⊆ m2

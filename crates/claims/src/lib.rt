@@ -1,0 +1,1 @@
+// No code stands here: specs/ states and proves what holds of the whole.

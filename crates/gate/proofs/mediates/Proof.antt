@@ -1,0 +1,52 @@
+-- `gate::mediates` meets its contract: the sets at hand have the members of those that are meant. Assumes nothing.
+use mathlib.Core.Path.{_≡_}
+use native.Mathlib.Omega.{arith}
+use Rattle.securon.specs.Iff.{iff-trans}
+use Rattle.gate.proofs.Row.{other-fits, same-mediates}
+use borrow.Author.Needs.{needs}
+use Rattle.gate.proofs.mediates.Statement.{statement}
+use Rattle.gate.proofs.mediates.Tie as tie
+
+returns : tie.Need-returns
+returns c = other-fits (λ e. omega arith) (λ e. omega arith)
+
+role-set-requires : tie.Need-role-set-requires
+role-set-requires c κs = let p = c .before .pre in (p .ready, omega arith, p .role .m1)
+
+role-set-requires-2 : tie.Need-role-set-requires-2
+role-set-requires-2 c κs = let p = c .before .before .pre in (p .ready, omega arith, p .role .m2)
+
+file-place-requires : tie.Need-file-place-requires
+file-place-requires c κs = search needs
+
+file-set-requires : tie.Need-file-set-requires
+file-set-requires c κs = let p = c .before .before .before .before .pre in rw (c .file-place .ensures) (p .ready, omega arith, p .file .e 0 (omega arith))
+
+file-place-requires-2 : tie.Need-file-place-requires-2
+file-place-requires-2 c κs = search needs
+
+file-set-requires-2 : tie.Need-file-set-requires-2
+file-set-requires-2 c κs = let p = c .before .before .before .before .before .before .pre in rw (c .file-place2 .ensures) (p .ready, omega arith, p .file .g 0 (omega arith))
+
+sets-fit-requires : tie.Need-sets-fit-requires
+sets-fit-requires c κs = search needs
+
+returns-2 : tie.Need-returns-2
+returns-2 c =
+    let e = rw (c .before .before .before .before .file-place .ensures) at (c .before .before .before .file-set .ensures) in
+    let g = rw (c .before .before .file-place2 .ensures) at (c .before .file-set2 .ensures) in
+    iff-trans (c .sets-fit .ensures) (same-mediates (c .before .before .before .before .before .before .role-set .ensures) (c .before .before .before .before .before .role-set2 .ensures) e g)
+
+pub mediates-spec : {M : Type 1} → statement M
+mediates-spec =
+    tie.close
+    (tie.spec
+    returns
+    role-set-requires
+    role-set-requires-2
+    file-place-requires
+    file-set-requires
+    file-place-requires-2
+    file-set-requires-2
+    sets-fit-requires
+    returns-2)

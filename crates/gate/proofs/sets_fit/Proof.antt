@@ -1,0 +1,39 @@
+-- `gate::sets_fit` meets its contract: each mode asks for its own two parts, or for nothing. Assumes nothing.
+use Rattle.securon.specs.Iff.{and-iff, iff-trans}
+use Rattle.gate.proofs.Row.{read-fits, write-fits, other-fits}
+use borrow.Author.Needs.{needs}
+use Rattle.gate.proofs.sets_fit.Statement.{statement}
+use Rattle.gate.proofs.sets_fit.Tie as tie
+
+part-requires : tie.Need-part-requires
+part-requires c κs = search needs
+
+part-requires-2 : tie.Need-part-requires-2
+part-requires-2 c κs = search needs
+
+returns : tie.Need-returns
+returns c = iff-trans (and-iff _ _ (c .before .part .ensures) (c .part2 .ensures)) (read-fits (c .before .before .if1 .taken))
+
+part-requires-3 : tie.Need-part-requires-3
+part-requires-3 c κs = search needs
+
+part-requires-4 : tie.Need-part-requires-4
+part-requires-4 c κs = search needs
+
+returns-2 : tie.Need-returns-2
+returns-2 c = iff-trans (and-iff _ _ (c .before .part3 .ensures) (c .part4 .ensures)) (write-fits (c .before .before .if2 .taken))
+
+returns-3 : tie.Need-returns-3
+returns-3 c = other-fits (c .before .if1 .left) (c .if2 .left)
+
+pub sets-fit-spec : {M : Type 1} → statement M
+sets-fit-spec =
+    tie.close
+    (tie.spec
+    part-requires
+    part-requires-2
+    returns
+    part-requires-3
+    part-requires-4
+    returns-2
+    returns-3)

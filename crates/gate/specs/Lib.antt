@@ -1,0 +1,5 @@
+pub mod Rules
+pub mod Requests
+pub mod Lists
+pub mod Laws
+pub mod Parts

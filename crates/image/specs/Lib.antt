@@ -1,0 +1,10 @@
+pub mod Image
+pub mod Faults
+pub mod Load
+pub mod Reading
+pub mod Order
+pub mod Standing
+pub mod Places
+pub mod Settled
+pub mod Answers
+pub mod OnePolicy

@@ -1,0 +1,6 @@
+pub mod Flags
+pub mod Places
+pub mod Trees
+pub mod Test
+pub mod Copies
+pub mod Walks

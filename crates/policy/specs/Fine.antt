@@ -1,0 +1,101 @@
+-- Well formed, shelf by shelf, as the test goes: what each of its functions tells. A device of the proofs.
+use mathlib.Core.Path.{_≡_, refl}
+use mathlib.Core.Bool.{Bool, true, false, _&&_}
+use mathlib.Core.List.{List, []}
+use mathlib.Core.Logic.{_↔_}
+use Prim.Native.Nat.{ℕ, _<_, _≤_, _%_}
+use lib.Dec.{eqb, ltb}
+use lib.ListN.{length, getD}
+use Rattle.securon.specs.Sets.{securons}
+use Rattle.tree.specs.declared.Tree.{Tree}
+use Rattle.tree.specs.Tree.{IsTree, LevelsOf}
+use Rattle.expression.specs.declared.Kind.{Kind}
+use Rattle.expression.specs.declared.Kind.the-variants.{Privilege, Protection}
+use Rattle.policy.specs.declared.Role.{Role}
+use Rattle.policy.specs.declared.File.{File}
+use Rattle.policy.specs.declared.Hold.the-variants.{By}
+use Rattle.policy.specs.declared.Slot.{Slot}
+use Rattle.policy.specs.declared.State.{State}
+use Rattle.policy.specs.declared.Grown.{Grown}
+use Rattle.policy.specs.State.{mostRoles, mostFiles, slotCount, rolePlaces, filePlaces, roomPast, offRole, offFile, freeSlot}
+use Rattle.policy.specs.WellFormed.{HasPlaces, PartInOrder, AllZero, ZeroShelf}
+
+abbrev pub kindIf : Bool → Kind
+kindIf true = Protection
+kindIf false = Privilege
+
+-- the kind at place k: T1 and T2, at the even places of a file, are protection expressions; all others are privilege expressions
+abbrev pub kindAt : Bool → ℕ → Kind
+kindAt file k = kindIf (file && eqb (k % 2) 0)
+
+-- the expression at place k is in order for its kind, and the room past it is zero
+pub record PlaceFine (kind : Kind) (n d : ℕ) (lens bytes : List ℕ) (k : ℕ) : Type 0 where
+  pub part : PartInOrder kind n d lens bytes k
+  pub past : AllZero (roomPast lens bytes k)
+
+-- and so at every place of a shelf
+abbrev pub ShelfFine : Bool → ℕ → ℕ → List ℕ → List ℕ → Type 0
+ShelfFine file n d lens bytes = (k : ℕ) → k < length lens → PlaceFine (kindAt file k) n d lens bytes k
+
+-- a shelf with its room: one that is used is fine, one that is not is zero
+pub record ShelfIs (used file : Bool) (places n d : ℕ) (lens bytes : List ℕ) : Type 0 where
+  pub room : HasPlaces places lens bytes
+  pub fine : used ≡ true → ShelfFine file n d lens bytes
+  pub zero : used ≡ false → ZeroShelf lens bytes
+
+-- what roles and files have in common: shelves of so many places, so many of them, and nothing past the last
+pub record Shelving (X : Type 0) : Type 0 where
+  pub lensOf : X → List ℕ
+  pub bytesOf : X → List ℕ
+  pub off : X
+  pub nothing : ZeroShelf (lensOf off) (bytesOf off)
+  pub file : Bool
+  pub places : ℕ
+  pub most : ℕ
+
+pub nil-zero : ZeroShelf [] []
+nil-zero = record { lengths = λ i. refl; room = λ i. refl }
+
+abbrev pub roleShelves : Shelving Role
+roleShelves = record { lensOf = λ r. r .lens; bytesOf = λ r. r .bytes; off = offRole; nothing = nil-zero; file = false; places = rolePlaces; most = mostRoles }
+
+abbrev pub fileShelves : Shelving File
+fileShelves = record { lensOf = λ f. f .lens; bytesOf = λ f. f .bytes; off = offFile; nothing = nil-zero; file = true; places = filePlaces; most = mostFiles }
+
+-- one of them
+abbrev pub OneIs : {X : Type 0} → Shelving X → Bool → ℕ → ℕ → X → Type 0
+OneIs k used n d x = ShelfIs used (k .file) (k .places) n d (k .lensOf x) (k .bytesOf x)
+
+-- all of them: those below the count are used
+pub record AllAre {X : Type 0} (k : Shelving X) (count n d : ℕ) (xs : List X) : Type 0 where
+  pub room : length xs ≡ k .most
+  pub each : (i : ℕ) → i < k .most → OneIs k (ltb i count) n d (getD xs i (k .off))
+
+-- a role that the slot holds is below the count
+abbrev pub SlotIs : ℕ → Slot → Type 0
+SlotIs count s = (r : ℕ) → s .hold ≡ By r → r < count
+
+pub record SlotsAre (count : ℕ) (slots : List Slot) : Type 0 where
+  pub room : length slots ≡ slotCount
+  pub each : (i : ℕ) → i < slotCount → SlotIs count (getD slots i freeSlot)
+
+-- a tree whose parents that no securon has are zero
+pub record TreeFine (t : Tree) : Type 0 where
+  pub room : length (t .parent) ≡ securons
+  pub is-tree : IsTree t
+  pub root : getD (t .parent) 0 0 ≡ 0
+  pub past : (u : ℕ) → t .n ≤ u → getD (t .parent) u 0 ≡ 0
+
+-- what the test of a tree tells
+pub record TreeExamined (t : Tree) (r : Grown) : Type 0 where
+  pub says : (r .ok ≡ true) ↔ TreeFine t
+  pub levels : r .ok ≡ true → LevelsOf t (r .levels)
+
+-- a state part by part, over the depth d of its tree
+pub record StateFine (s : State) (d : ℕ) : Type 0 where
+  pub tree : TreeFine (s .tree)
+  pub role-count : s .nroles ≤ mostRoles
+  pub file-count : s .nfiles ≤ mostFiles
+  pub roles : AllAre roleShelves (s .nroles) (s .tree .n) d (s .roles)
+  pub files : AllAre fileShelves (s .nfiles) (s .tree .n) d (s .files)
+  pub slots : SlotsAre (s .nroles) (s .slots)

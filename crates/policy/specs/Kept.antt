@@ -1,0 +1,153 @@
+-- A well-formed state stays so where a slot is set, and where two expressions in order are stored. Assumes nothing.
+use mathlib.Core.Path.{_≡_, refl, sym, ap, _∙_, subst}
+use mathlib.Core.Bool.{Bool, true}
+use mathlib.Core.List.{List}
+use mathlib.Core.Logic.{inl}
+use Prim.Native.Nat.{ℕ, _+_, _*_, _-_, _<_, _≤_}
+use native.Mathlib.Decide.{ℕ-discrete}
+use native.Mathlib.Omega.{arith}
+use lib.ListN.{length, getD, take, drop, set, length-set}
+use lib.Seq.{getD-set-same, getD-set-other}
+use Rattle.tree.specs.Tree.{IsDepth}
+use Rattle.expression.specs.declared.Kind.{Kind}
+use Rattle.expression.specs.declared.Kind.the-variants.{Privilege, Protection}
+use Rattle.expression.specs.Bytes.{longest, InOrder}
+use Rattle.policy.specs.declared.Hold.{Hold}
+use Rattle.policy.specs.declared.Hold.the-variants.{Free, By}
+use Rattle.policy.specs.declared.Slot.{Slot}
+use Rattle.policy.specs.declared.State.{State}
+use Rattle.policy.specs.State.{slotCount, modeCount, filePlaces, freeSlot, fileAt, holdOf, putBytes, putPair, withHold, withPair, withT1T2, withEG, t1Place, ePlace}
+use Rattle.policy.specs.WellFormed.{HasPlaces, AllZero, ZeroShelf, WellFormed}
+use Rattle.policy.specs.Fine.{kindAt, PlaceFine, ShelfFine}
+use Rattle.policy.specs.Parts.{even-kind, odd-kind}
+use Rattle.policy.specs.Shelves.{zero-part, put-length, stored-put, past-put, stored-other, past-other}
+use Rattle.policy.specs.Whole.{free-held, all-used, all-set, fine-well-formed, well-formed-fine}
+
+-- x is put at place k of a shelf
+module _ {places : ℕ} {lens bytes : List ℕ} (p : HasPlaces places lens bytes) (k : ℕ) (h : k < places) (x : List ℕ) (hx : length x ≤ longest) where
+  -- the shelf has its room as before
+  pub put-places : HasPlaces places (set lens k (length x)) (putBytes bytes k x)
+  put-places = record {
+    lengths = length-set lens k (length x) ∙ p .lengths;
+    room = put-length bytes k x hx (omega (arith, p .room)) ∙ p .room;
+  }
+
+  -- and is fine, where x is in order for the kind of its place
+  pub put-fine : (file : Bool) (n d : ℕ) → ShelfFine file n d lens bytes → InOrder (kindAt file k) n d x → ShelfFine file n d (set lens k (length x)) (putBytes bytes k x)
+  put-fine file n d f o j l = go (ℕ-discrete j k)
+    where
+      here : PlaceFine (kindAt file k) n d (set lens k (length x)) (putBytes bytes k x) k
+      here =
+          let b : longest * k + longest ≤ length bytes = omega (arith, p .room) in
+          let g : k < length lens = omega (arith, p .lengths) in
+          record {
+            part = record {
+              short = omega (arith, getD-set-same lens k (length x) 0 g);
+              in-order = subst (InOrder (kindAt file k) n d) (sym (stored-put bytes k x hx b lens g)) o;
+            };
+            past = past-put bytes k x hx b lens g;
+          }
+
+      there : (j ≡ k → ⊥) → PlaceFine (kindAt file j) n d (set lens k (length x)) (putBytes bytes k x) j
+      there m =
+          let b : longest * k + longest ≤ length bytes = omega (arith, p .room) in
+          let g : j < length lens = omega (arith, length-set lens k (length x)) in
+          let c : longest * j + longest ≤ length bytes = omega (arith, p .room, p .lengths) in
+          let was = f j g in
+          record {
+            part = record {
+              short = omega (arith, getD-set-other lens k j (length x) 0 m, was .part .short);
+              in-order = subst (InOrder (kindAt file j) n d) (sym (stored-other bytes k x hx b lens j m (was .part .short) c)) (was .part .in-order);
+            };
+            past = subst AllZero (sym (past-other bytes k x hx b lens j m (was .part .short) c)) (was .past);
+          }
+
+      go : Dec (j ≡ k) → PlaceFine (kindAt file j) n d (set lens k (length x)) (putBytes bytes k x) j
+      go (yes e) = subst (λ (i : ℕ). PlaceFine (kindAt file i) n d (set lens k (length x)) (putBytes bytes k x) i) (sym e) here
+      go (no m) = there m
+
+-- a shelf of zeros is fine: every expression has length 0
+pub zero-fine : (file : Bool) (n d : ℕ) {lens bytes : List ℕ} → ZeroShelf lens bytes → ShelfFine file n d lens bytes
+zero-fine file n d {lens} {bytes} z k l =
+    let none : getD lens k 0 ≡ 0 = z .lengths k in
+    record {
+      part = record {
+        short = omega arith;
+        in-order = subst (λ (m : ℕ). InOrder (kindAt file k) n d (take m (drop (longest * k) bytes))) (sym none) (omega arith, inl refl);
+      };
+      past = zero-part bytes (longest * k + getD lens k 0) (longest - getD lens k 0) (z .room);
+    }
+
+module _ (s : State) (w : WellFormed s) where
+  -- a slot is set to hold what is no absent role
+  pub hold-kept : (i : ℕ) → i < slotCount → (h : Hold) → ((r : ℕ) → h ≡ By r → r < s .nroles) → WellFormed (withHold s i h)
+  hold-kept i l h present = record {
+    room = record {
+      parents = w .room .parents;
+      roles = w .room .roles;
+      role-places = w .room .role-places;
+      files = w .room .files;
+      file-places = w .room .file-places;
+      slots = length-set (s .slots) i (record { hold = h }) ∙ w .room .slots;
+    };
+    tree = w .tree;
+    role-count = w .role-count;
+    file-count = w .file-count;
+    depth = w .depth;
+    is-depth = w .is-depth;
+    roles-in-order = w .roles-in-order;
+    files-in-order = w .files-in-order;
+    held-present = λ j r e. go j r e (ℕ-discrete j i);
+    unused-zero = record {
+      root = w .unused-zero .root;
+      parents = w .unused-zero .parents;
+      role-bytes = w .unused-zero .role-bytes;
+      roles = w .unused-zero .roles;
+      file-bytes = w .unused-zero .file-bytes;
+      files = w .unused-zero .files;
+    };
+  }
+    where
+      go : (j r : ℕ) → holdOf (withHold s i h) j ≡ By r → Dec (j ≡ i) → r < s .nroles
+      go j r e (yes q) =
+          present r (sym (ap (λ (x : Slot). x .hold) (getD-set-same (s .slots) i (record { hold = h }) freeSlot (omega (arith, w .room .slots)))) ∙ ap (λ (k : ℕ). holdOf (withHold s i h) k) (sym q) ∙ e)
+      go j r e (no n) =
+          w .held-present j r (sym (ap (λ (x : Slot). x .hold) (getD-set-other (s .slots) i j (record { hold = h }) freeSlot n)) ∙ e)
+
+  -- begin: the slot holds a role that is present
+  pub by-kept : (i r : ℕ) → i < slotCount → r < s .nroles → WellFormed (withHold s i (By r))
+  by-kept i r l p = hold-kept i l (By r) (λ q e. let same : r ≡ q = cc in omega arith)
+
+  -- end: the slot is free
+  pub free-kept : (i : ℕ) → i < slotCount → WellFormed (withHold s i Free)
+  free-kept i l = hold-kept i l Free (λ q e. absurd (free-held e))
+
+  module _ (d : ℕ) (deep : IsDepth (s .tree) d) (file : ℕ) (present : file < s .nfiles) where
+    -- two expressions are stored that are in order for the kinds of their places
+    pub pair-kept : (k : ℕ) (x y : List ℕ) → k + 2 < filePlaces → InOrder (kindAt true k) (s .tree .n) d x → InOrder (kindAt true (k + 2)) (s .tree .n) d y → WellFormed (withPair s file k x y)
+    pair-kept k x y h o q =
+        let all = well-formed-fine s d deep w in
+        let room = w .room .file-places file (omega (arith, w .file-count)) in
+        let first = put-places room k (omega arith) x (o .0) in
+        let fine = put-fine room k (omega arith) x (o .0) true _ _ (λ j l. all-used (all .files) file j present (omega (arith, w .file-count)) (omega (arith, room .lengths))) o in
+        fine-well-formed (withPair s file k x y) d deep (record {
+          tree = all .tree;
+          role-count = all .role-count;
+          file-count = all .file-count;
+          roles = all .roles;
+          files = all-set (all .files) file present (omega (arith, w .file-count)) (putPair (fileAt s file) k x y) (put-places first (k + 2) h y (q .0)) (put-fine first (k + 2) h y (q .0) true _ _ fine q);
+          slots = all .slots;
+        })
+
+    module _ (mode : ℕ) (few : mode < modeCount) (x y : List ℕ) where
+      -- change: T1 and T2 are stored
+      pub t1t2-kept : InOrder Protection (s .tree .n) d x → InOrder Protection (s .tree .n) d y → WellFormed (withT1T2 s file mode x y)
+      t1t2-kept o q = pair-kept (t1Place mode) x y (omega arith)
+          (subst (λ (kind : Kind). InOrder kind (s .tree .n) d x) (sym (even-kind (t1Place mode) (omega arith))) o)
+          (subst (λ (kind : Kind). InOrder kind (s .tree .n) d y) (sym (even-kind (t1Place mode + 2) (omega arith))) q)
+
+      -- bypass: E and G are stored
+      pub eg-kept : InOrder Privilege (s .tree .n) d x → InOrder Privilege (s .tree .n) d y → WellFormed (withEG s file mode x y)
+      eg-kept o q = pair-kept (ePlace mode) x y (omega arith)
+          (subst (λ (kind : Kind). InOrder kind (s .tree .n) d x) (sym (odd-kind (ePlace mode) (omega arith))) o)
+          (subst (λ (kind : Kind). InOrder kind (s .tree .n) d y) (sym (odd-kind (ePlace mode + 2) (omega arith))) q)

@@ -1,0 +1,122 @@
+-- Put, then read: what is stored reads as stored, and all else as before. Assumes nothing.
+use mathlib.Core.Path.{_≡_, sym, ap, _∙_}
+use mathlib.Core.List.{List}
+use Prim.Native.Nat.{ℕ, _+_, _<_, _≤_}
+use native.Mathlib.Decide.{ℕ-discrete}
+use native.Mathlib.Omega.{arith}
+use lib.ListN.{length, getD, set}
+use lib.Seq.{getD-set-same, getD-set-other}
+use Rattle.expression.specs.Bytes.{longest}
+use Rattle.policy.specs.declared.File.{File}
+use Rattle.policy.specs.declared.Hold.{Hold}
+use Rattle.policy.specs.declared.Slot.{Slot}
+use Rattle.policy.specs.declared.State.{State}
+use Rattle.policy.specs.State.{slotCount, modeCount, filePlaces, storedAt, offFile, freeSlot, fileAt, holdOf, filePart, t1Of, eOf, t2Of, gOf, t1Place, ePlace, t2Place, gPlace, putBytes, putFile, putPair, withHold, withPair, withT1T2, withEG}
+use Rattle.policy.specs.WellFormed.{HasPlaces, HasRoom, WellFormed}
+use Rattle.policy.specs.Parts.{file-by-place}
+use Rattle.policy.specs.Shelves.{stored-put, stored-other}
+use Rattle.policy.specs.Kept.{put-places}
+
+-- a slot that is set reads as set, the others as before
+module _ (s : State) (room : HasRoom s) (i : ℕ) (h : Hold) where
+  pub hold-here : i < slotCount → holdOf (withHold s i h) i ≡ h
+  hold-here l = ap (λ (x : Slot). x .hold) (getD-set-same (s .slots) i (record { hold = h }) freeSlot (omega (arith, room .slots)))
+
+  pub hold-there : (j : ℕ) → (j ≡ i → ⊥) → holdOf (withHold s i h) j ≡ holdOf s j
+  hold-there j n = ap (λ (x : Slot). x .hold) (getD-set-other (s .slots) i j (record { hold = h }) freeSlot n)
+
+-- x is put at place k of a shelf
+module _ {places : ℕ} {lens bytes : List ℕ} (p : HasPlaces places lens bytes) (k : ℕ) (l : k < places) (x : List ℕ) (hx : length x ≤ longest) where
+  pub put-here : storedAt (set lens k (length x)) (putBytes bytes k x) k ≡ x
+  put-here = stored-put bytes k x hx (omega (arith, p .room)) lens (omega (arith, p .lengths))
+
+  pub put-there : (j : ℕ) → j < places → (j ≡ k → ⊥) → getD lens j 0 ≤ longest → storedAt (set lens k (length x)) (putBytes bytes k x) j ≡ storedAt lens bytes j
+  put-there j m n short = stored-other bytes k x hx (omega (arith, p .room)) lens j n short (omega (arith, p .room))
+
+-- x is put at place k of a present file, and y two places on
+module _ (s : State) (w : WellFormed s) (file : ℕ) (present : file < s .nfiles) (k : ℕ) (l : k + 2 < filePlaces) (x y : List ℕ) (hx : length x ≤ longest) (hy : length y ≤ longest) where
+  old : HasPlaces filePlaces (fileAt s file .lens) (fileAt s file .bytes)
+  old = w .room .file-places file (omega (arith, w .file-count))
+
+  first : HasPlaces filePlaces (putFile (fileAt s file) k x .lens) (putFile (fileAt s file) k x .bytes)
+  first = put-places old k (omega arith) x hx
+
+  short : (j : ℕ) → j < filePlaces → getD (fileAt s file .lens) j 0 ≤ longest
+  short j h = file-by-place (w .files-in-order file present) j h .short
+
+  -- that file is the one with both stored
+  now-file : fileAt (withPair s file k x y) file ≡ putPair (fileAt s file) k x y
+  now-file = getD-set-same (s .files) file (putPair (fileAt s file) k x y) offFile (omega (arith, w .room .files, w .file-count))
+
+  pub pair-first : filePart (fileAt (withPair s file k x y) file) k ≡ x
+  pair-first =
+      ap (λ (f : File). filePart f k) now-file
+      ∙ put-there first (k + 2) l y hy k (omega arith) (λ e. omega arith) (omega (arith, getD-set-same (fileAt s file .lens) k (length x) 0 (omega (arith, old .lengths))))
+      ∙ put-here old k (omega arith) x hx
+
+  pub pair-second : filePart (fileAt (withPair s file k x y) file) (k + 2) ≡ y
+  pair-second = ap (λ (f : File). filePart f (k + 2)) now-file ∙ put-here first (k + 2) l y hy
+
+  -- every other place of every file reads as before
+  pub pair-else : (i j : ℕ) → j < filePlaces → (i ≡ file → (j ≡ k → ⊥) × (j ≡ k + 2 → ⊥)) → filePart (fileAt (withPair s file k x y) i) j ≡ filePart (fileAt s i) j
+  pair-else i j h apart = go (ℕ-discrete i file)
+    where
+      go : Dec (i ≡ file) → filePart (fileAt (withPair s file k x y) i) j ≡ filePart (fileAt s i) j
+      go (yes e) =
+          let n = apart e in
+          let same = getD-set-other (fileAt s file .lens) k j (length x) 0 (n .0) in
+          ap (λ (q : ℕ). filePart (fileAt (withPair s file k x y) q) j) e
+          ∙ ap (λ (f : File). filePart f j) now-file
+          ∙ put-there first (k + 2) l y hy j h (n .1) (omega (arith, same, short j h))
+          ∙ put-there old k (omega arith) x hx j h (n .0) (short j h)
+          ∙ ap (λ (q : ℕ). filePart (fileAt s q) j) (sym e)
+      go (no n) = ap (λ (f : File). filePart f j) (getD-set-other (s .files) file i (putPair (fileAt s file) k x y) offFile n)
+
+-- after a change: T1 and T2 of that row are those stored, and every other part of every file is as before
+pub record Changed (s r : State) (file mode : ℕ) (x y : List ℕ) : Type 0 where
+  pub t1-here : t1Of r file mode ≡ x
+  pub t2-here : t2Of r file mode ≡ y
+  pub t1-else : (i m : ℕ) → m < modeCount → ((i ≡ file) × (m ≡ mode) → ⊥) → t1Of r i m ≡ t1Of s i m
+  pub t2-else : (i m : ℕ) → m < modeCount → ((i ≡ file) × (m ≡ mode) → ⊥) → t2Of r i m ≡ t2Of s i m
+  pub e-all : (i m : ℕ) → m < modeCount → eOf r i m ≡ eOf s i m
+  pub g-all : (i m : ℕ) → m < modeCount → gOf r i m ≡ gOf s i m
+
+-- after a bypass: E and G of that row are those stored, and every other part of every file is as before
+pub record Bypassed (s r : State) (file mode : ℕ) (x y : List ℕ) : Type 0 where
+  pub e-here : eOf r file mode ≡ x
+  pub g-here : gOf r file mode ≡ y
+  pub e-else : (i m : ℕ) → m < modeCount → ((i ≡ file) × (m ≡ mode) → ⊥) → eOf r i m ≡ eOf s i m
+  pub g-else : (i m : ℕ) → m < modeCount → ((i ≡ file) × (m ≡ mode) → ⊥) → gOf r i m ≡ gOf s i m
+  pub t1-all : (i m : ℕ) → m < modeCount → t1Of r i m ≡ t1Of s i m
+  pub t2-all : (i m : ℕ) → m < modeCount → t2Of r i m ≡ t2Of s i m
+
+-- one row is not another
+other : {i file m mode : ℕ} {A B : Type 0} → ((i ≡ file) × (m ≡ mode) → ⊥) → (A → m ≡ mode) → (B → m ≡ mode) → i ≡ file → (A → ⊥) × (B → ⊥)
+other n f g e = ((λ a. n (e, f a)), λ b. n (e, g b))
+
+module _ (s : State) (w : WellFormed s) (file : ℕ) (present : file < s .nfiles) (mode : ℕ) (few : mode < modeCount) (x y : List ℕ) (hx : length x ≤ longest) (hy : length y ≤ longest) where
+  pub t1t2-reads : Changed s (withT1T2 s file mode x y) file mode x y
+  t1t2-reads =
+      let else = pair-else s w file present (t1Place mode) (omega arith) x y hx hy in
+      let two : t1Place mode + 2 ≡ t2Place mode = omega arith in
+      record {
+        t1-here = pair-first s w file present (t1Place mode) (omega arith) x y hx hy;
+        t2-here = ap (λ (k : ℕ). filePart (fileAt (withT1T2 s file mode x y) file) k) (sym two) ∙ pair-second s w file present (t1Place mode) (omega arith) x y hx hy;
+        t1-else = λ i m h n. else i (t1Place m) (omega arith) (other n (λ e. omega arith) (λ e. omega arith));
+        t2-else = λ i m h n. else i (t2Place m) (omega arith) (other n (λ e. omega arith) (λ e. omega arith));
+        e-all = λ i m h. else i (ePlace m) (omega arith) (λ _. ((λ e. omega arith), λ e. omega arith));
+        g-all = λ i m h. else i (gPlace m) (omega arith) (λ _. ((λ e. omega arith), λ e. omega arith));
+      }
+
+  pub eg-reads : Bypassed s (withEG s file mode x y) file mode x y
+  eg-reads =
+      let else = pair-else s w file present (ePlace mode) (omega arith) x y hx hy in
+      let two : ePlace mode + 2 ≡ gPlace mode = omega arith in
+      record {
+        e-here = pair-first s w file present (ePlace mode) (omega arith) x y hx hy;
+        g-here = ap (λ (k : ℕ). filePart (fileAt (withEG s file mode x y) file) k) (sym two) ∙ pair-second s w file present (ePlace mode) (omega arith) x y hx hy;
+        e-else = λ i m h n. else i (ePlace m) (omega arith) (other n (λ e. omega arith) (λ e. omega arith));
+        g-else = λ i m h n. else i (gPlace m) (omega arith) (other n (λ e. omega arith) (λ e. omega arith));
+        t1-all = λ i m h. else i (t1Place m) (omega arith) (λ _. ((λ e. omega arith), λ e. omega arith));
+        t2-all = λ i m h. else i (t2Place m) (omega arith) (λ _. ((λ e. omega arith), λ e. omega arith));
+      }

@@ -1,0 +1,92 @@
+-- When a state is well formed. 01, "Requests": "Well formed means: counts and tree as above, every stored expression in order for its kind, held roles present, unused room zero." Definitions only.
+use mathlib.Core.Path.{_≡_}
+use mathlib.Core.Bool.{true}
+use mathlib.Core.List.{List}
+use mathlib.Core.Logic.{_↔_}
+use Prim.Native.Nat.{ℕ, _*_, _<_, _≤_}
+use lib.ListN.{length, getD}
+use Rattle.securon.specs.Sets.{securons}
+use Rattle.tree.specs.Tree.{IsTree, IsDepth, LevelsOf}
+use Rattle.expression.specs.declared.Kind.{Kind}
+use Rattle.expression.specs.declared.Kind.the-variants.{Privilege, Protection}
+use Rattle.expression.specs.Bytes.{longest, InOrder}
+use Rattle.policy.specs.declared.Role.{Role}
+use Rattle.policy.specs.declared.File.{File}
+use Rattle.policy.specs.declared.Hold.the-variants.{By}
+use Rattle.policy.specs.declared.State.{State}
+use Rattle.policy.specs.declared.Examined.{Examined}
+use Rattle.policy.specs.State.{mostRoles, mostFiles, slotCount, modeCount, rolePlaces, filePlaces, vPlusPlace, vMinusPlace, m1Place, m2Place, bPlace, t1Place, ePlace, t2Place, gPlace, storedAt, roomPast, roleAt, fileAt, holdOf}
+
+-- the room of a state: 64 parents, 32 roles of thirteen places, 32 files of twenty places, sixteen slots, each place of 48 bytes. Every state that code holds has it
+pub record HasPlaces (places : ℕ) (lens bytes : List ℕ) : Type 0 where
+  pub lengths : length lens ≡ places
+  pub room : length bytes ≡ longest * places
+
+pub record HasRoom (s : State) : Type 0 where
+  pub parents : length (s .tree .parent) ≡ securons
+  pub roles : length (s .roles) ≡ mostRoles
+  pub role-places : (i : ℕ) → i < mostRoles → HasPlaces rolePlaces (roleAt s i .lens) (roleAt s i .bytes)
+  pub files : length (s .files) ≡ mostFiles
+  pub file-places : (i : ℕ) → i < mostFiles → HasPlaces filePlaces (fileAt s i .lens) (fileAt s i .bytes)
+  pub slots : length (s .slots) ≡ slotCount
+
+-- the expression at place k of a shelf is in order for its kind, over n securons and the depth d: its length is at most 48, and its bytes are right
+pub record PartInOrder (kind : Kind) (n d : ℕ) (lens bytes : List ℕ) (k : ℕ) : Type 0 where
+  pub short : getD lens k 0 ≤ longest
+  pub in-order : InOrder kind n d (storedAt lens bytes k)
+
+-- a role's expressions are all privilege expressions
+pub record RoleInOrder (n d : ℕ) (r : Role) : Type 0 where
+  pub v-plus : (mode : ℕ) → mode < modeCount → PartInOrder Privilege n d (r .lens) (r .bytes) (vPlusPlace mode)
+  pub v-minus : (mode : ℕ) → mode < modeCount → PartInOrder Privilege n d (r .lens) (r .bytes) (vMinusPlace mode)
+  pub m1 : PartInOrder Privilege n d (r .lens) (r .bytes) m1Place
+  pub m2 : PartInOrder Privilege n d (r .lens) (r .bytes) m2Place
+  pub b : PartInOrder Privilege n d (r .lens) (r .bytes) bPlace
+
+-- T1 and T2 are protection expressions, E and G privilege expressions
+pub record FileInOrder (n d : ℕ) (f : File) : Type 0 where
+  pub t1 : (mode : ℕ) → mode < modeCount → PartInOrder Protection n d (f .lens) (f .bytes) (t1Place mode)
+  pub e : (mode : ℕ) → mode < modeCount → PartInOrder Privilege n d (f .lens) (f .bytes) (ePlace mode)
+  pub t2 : (mode : ℕ) → mode < modeCount → PartInOrder Protection n d (f .lens) (f .bytes) (t2Place mode)
+  pub g : (mode : ℕ) → mode < modeCount → PartInOrder Privilege n d (f .lens) (f .bytes) (gPlace mode)
+
+-- every number of l is zero
+abbrev pub AllZero : List ℕ → Type 0
+AllZero l = (i : ℕ) → getD l i 0 ≡ 0
+
+-- a shelf that is not used
+pub record ZeroShelf (lens bytes : List ℕ) : Type 0 where
+  pub lengths : AllZero lens
+  pub room : AllZero bytes
+
+-- unused room is zero: the root's parent and those of securons from n up; of a present role or file, the bytes of an expression past its length; every role and file from its count up. A free slot keeps nothing
+pub record UnusedZero (s : State) : Type 0 where
+  pub root : getD (s .tree .parent) 0 0 ≡ 0
+  pub parents : (u : ℕ) → s .tree .n ≤ u → getD (s .tree .parent) u 0 ≡ 0
+  pub role-bytes : (i k : ℕ) → i < s .nroles → k < rolePlaces → AllZero (roomPast (roleAt s i .lens) (roleAt s i .bytes) k)
+  pub roles : (i : ℕ) → s .nroles ≤ i → ZeroShelf (roleAt s i .lens) (roleAt s i .bytes)
+  pub file-bytes : (i k : ℕ) → i < s .nfiles → k < filePlaces → AllZero (roomPast (fileAt s i .lens) (fileAt s i .bytes) k)
+  pub files : (i : ℕ) → s .nfiles ≤ i → ZeroShelf (fileAt s i .lens) (fileAt s i .bytes)
+
+pub record WellFormed (s : State) : Type 0 where
+  pub room : HasRoom s
+  -- counts and tree as above
+  pub tree : IsTree (s .tree)
+  pub role-count : s .nroles ≤ mostRoles
+  pub file-count : s .nfiles ≤ mostFiles
+  -- every stored expression in order for its kind. (A tree has one depth)
+  pub depth : ℕ
+  pub is-depth : IsDepth (s .tree) depth
+  pub roles-in-order : (i : ℕ) → i < s .nroles → RoleInOrder (s .tree .n) depth (roleAt s i)
+  pub files-in-order : (i : ℕ) → i < s .nfiles → FileInOrder (s .tree .n) depth (fileAt s i)
+  -- held roles present
+  pub held-present : (i r : ℕ) → holdOf s i ≡ By r → r < s .nroles
+  -- unused room zero
+  pub unused-zero : UnusedZero s
+
+-- what the test of a state tells: whether it is well formed, and if so the levels of its securons, and the role and the file that are asked for
+pub record Examines (s : State) (role file : ℕ) (r : Examined) : Type 0 where
+  pub says : (r .ok ≡ true) ↔ WellFormed s
+  pub levels : r .ok ≡ true → LevelsOf (s .tree) (r .levels)
+  pub role-is : r .ok ≡ true → role < mostRoles → r .role ≡ roleAt s role
+  pub file-is : r .ok ≡ true → file < mostFiles → r .file ≡ fileAt s file

@@ -1,0 +1,108 @@
+-- A state is well formed exactly if it is fine part by part. Assumes nothing.
+use mathlib.Core.Path.{_≡_, sym, ap, _∙_, subst}
+use mathlib.Core.List.{List}
+use Prim.Native.Nat.{ℕ, _<_, _≤_}
+use native.Mathlib.Decide.{decLt, ℕ-discrete}
+use native.Mathlib.Omega.{arith}
+use borrow.Author.Tests.{ltb-true, ltb-false, lt-ltb, le-ltb}
+use lib.Dec.{ltb}
+use lib.ListN.{length, getD, set, length-set, List·getD-eq-default}
+use lib.Seq.{getD-set-same, getD-set-other}
+use Rattle.tree.specs.Tree.{IsDepth}
+use Rattle.expression.specs.declared.Kind.{Kind}
+use Rattle.policy.specs.declared.Hold.the-variants.{Free, By}
+use Rattle.policy.specs.declared.Slot.{Slot}
+use Rattle.policy.specs.declared.State.{State}
+use Rattle.policy.specs.State.{slotCount, freeSlot, holdOf}
+use Rattle.policy.specs.WellFormed.{HasPlaces, PartInOrder, ZeroShelf, WellFormed}
+use Rattle.policy.specs.Fine.{kindAt, PlaceFine, ShelfFine, Shelving, OneIs, AllAre, StateFine}
+use Rattle.policy.specs.Parts.{one-depth, role-by-place, role-by-name, file-by-place, file-by-name}
+
+-- a free slot holds no role
+pub free-held : {r : ℕ} → Free ≡ By r → ⊥
+free-held e = let z : _≡_ {A = ℕ} 0 1 = cc in omega arith
+
+-- roles or files, those below the count used
+module _ {X : Type 0} {k : Shelving X} {count n d : ℕ} {xs : List X} where
+  pub all-used : AllAre k count n d xs → (i j : ℕ) → i < count → i < k .most → j < k .places → PlaceFine (kindAt (k .file) j) n d (k .lensOf (getD xs i (k .off))) (k .bytesOf (getD xs i (k .off))) j
+  all-used a i j h m l = let it = a .each i m in it .fine (lt-ltb i count h) j (omega (arith, it .room .lengths))
+
+  pub all-unused : AllAre k count n d xs → (i : ℕ) → count ≤ i → ZeroShelf (k .lensOf (getD xs i (k .off))) (k .bytesOf (getD xs i (k .off)))
+  all-unused a i h = go (decLt i (k .most))
+    where
+      go : Dec (i < k .most) → ZeroShelf (k .lensOf (getD xs i (k .off))) (k .bytesOf (getD xs i (k .off)))
+      go (yes l) = a .each i l .zero (le-ltb i count h)
+      go (no m) =
+          subst (λ (x : X). ZeroShelf (k .lensOf x) (k .bytesOf x)) (sym (List·getD-eq-default xs (k .off) {n = i} (omega (arith, a .room)))) (k .nothing)
+
+  pub all-are : length xs ≡ k .most → ((i : ℕ) → i < k .most → HasPlaces (k .places) (k .lensOf (getD xs i (k .off))) (k .bytesOf (getD xs i (k .off)))) → ((i j : ℕ) → i < count → j < k .places → PlaceFine (kindAt (k .file) j) n d (k .lensOf (getD xs i (k .off))) (k .bytesOf (getD xs i (k .off))) j) → ((i : ℕ) → count ≤ i → ZeroShelf (k .lensOf (getD xs i (k .off))) (k .bytesOf (getD xs i (k .off)))) → AllAre k count n d xs
+  all-are long room fine zero = record {
+    room = long;
+    each = λ i h. record {
+      room = room i h;
+      fine = λ e j l. fine i j (ltb-true i count e) (omega (arith, room i h .lengths));
+      zero = λ e. zero i (ltb-false i count e);
+    };
+  }
+
+  -- one that is used is replaced by one that is fine
+  pub all-set : AllAre k count n d xs → (i : ℕ) → i < count → i < k .most → (x : X) → HasPlaces (k .places) (k .lensOf x) (k .bytesOf x) → ShelfFine (k .file) n d (k .lensOf x) (k .bytesOf x) → AllAre k count n d (set xs i x)
+  all-set a i h m x room fine = record {
+    room = length-set xs i x ∙ a .room;
+    each = λ j l. go j l (ℕ-discrete j i);
+  }
+    where
+      go : (j : ℕ) → j < k .most → Dec (j ≡ i) → OneIs k (ltb j count) n d (getD (set xs i x) j (k .off))
+      go j l (yes e) =
+          let here : getD (set xs i x) j (k .off) ≡ x = ap (λ (q : ℕ). getD (set xs i x) q (k .off)) e ∙ getD-set-same xs i x (k .off) (omega (arith, a .room)) in
+          subst (OneIs k (ltb j count) n d) (sym here) (record { room = room; fine = λ _. fine; zero = λ q. absurd (omega (arith, ltb-false j count q)) })
+      go j l (no q) = subst (OneIs k (ltb j count) n d) (sym (getD-set-other xs i j x (k .off) q)) (a .each j l)
+
+module _ (s : State) (d : ℕ) (deep : IsDepth (s .tree) d) where
+  pub fine-well-formed : StateFine s d → WellFormed s
+  fine-well-formed f = record {
+    room = record {
+      parents = f .tree .room;
+      roles = f .roles .room;
+      role-places = λ i h. f .roles .each i h .room;
+      files = f .files .room;
+      file-places = λ i h. f .files .each i h .room;
+      slots = f .slots .room;
+    };
+    tree = f .tree .is-tree;
+    role-count = f .role-count;
+    file-count = f .file-count;
+    depth = d;
+    is-depth = deep;
+    roles-in-order = λ i h. role-by-name (λ k l. all-used (f .roles) i k h (omega arith) l .part);
+    files-in-order = λ i h. file-by-name (λ k l. all-used (f .files) i k h (omega arith) l .part);
+    held-present = λ i r e. held i r e (decLt i slotCount);
+    unused-zero = record {
+      root = f .tree .root;
+      parents = f .tree .past;
+      role-bytes = λ i k h l. all-used (f .roles) i k h (omega arith) l .past;
+      roles = all-unused (f .roles);
+      file-bytes = λ i k h l. all-used (f .files) i k h (omega arith) l .past;
+      files = all-unused (f .files);
+    };
+  }
+    where
+      held : (i r : ℕ) → holdOf s i ≡ By r → Dec (i < slotCount) → r < s .nroles
+      held i r e (yes l) = f .slots .each i l r e
+      held i r e (no n) =
+          let free : getD (s .slots) i freeSlot ≡ freeSlot = List·getD-eq-default (s .slots) freeSlot {n = i} (omega (arith, f .slots .room)) in
+          absurd (free-held (sym (ap (λ (x : Slot). x .hold) free) ∙ e))
+
+  pub well-formed-fine : WellFormed s → StateFine s d
+  well-formed-fine w = record {
+    tree = record { room = w .room .parents; is-tree = w .tree; root = w .unused-zero .root; past = w .unused-zero .parents };
+    role-count = w .role-count;
+    file-count = w .file-count;
+    roles = all-are (w .room .roles) (w .room .role-places) (λ i j h l. record { part = deeper (role-by-place (w .roles-in-order i h) j l); past = w .unused-zero .role-bytes i j h l }) (w .unused-zero .roles);
+    files = all-are (w .room .files) (w .room .file-places) (λ i j h l. record { part = deeper (file-by-place (w .files-in-order i h) j l); past = w .unused-zero .file-bytes i j h l }) (w .unused-zero .files);
+    slots = record { room = w .room .slots; each = λ i h r e. w .held-present i r e };
+  }
+    where
+      -- a tree has one depth
+      deeper : {kind : Kind} {n k : ℕ} {lens bytes : List ℕ} → PartInOrder kind n (w .depth) lens bytes k → PartInOrder kind n d lens bytes k
+      deeper {kind} {n} {k} {lens} {bytes} p = subst (λ (x : ℕ). PartInOrder kind n x lens bytes k) (one-depth (w .is-depth) deep) p

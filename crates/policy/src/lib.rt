@@ -1,0 +1,560 @@
+// The state: the tree, roles, files and slots; the fresh state; is a state well formed; stores (01, "Rows, roles and the test", "Requests").
+use expression::Checked;
+use expression::Kind;
+use expression::LONGEST;
+use securon::Level;
+use securon::SECURONS;
+use tree::Levels;
+use tree::Shape;
+use tree::Tree;
+ghost use mathlib.Core.Path.{_≡_};
+ghost use mathlib.Core.Bool.{Bool, true, false};
+ghost use mathlib.Core.Logic.{_↔_};
+ghost use Prim.Native.Nat.{ℕ, _+_, _*_, _<_, _≤_};
+ghost use lib.ListN.{length, getD};
+ghost use Rattle.policy.specs.State.{modeCount, mostRoles, mostFiles, slotCount, rolePlaces, filePlaces, senses, parts, rolePlace, filePlace, storedAt, offRole, offFile, roleAt, fileAt, holdOf, noRole, noFile, freshState, putBytes, putRole, putFile, putPair, withHold, withFile, withPair};
+ghost use Rattle.expression.specs.Bytes.{longest, InOrder};
+ghost use Rattle.tree.specs.Tree.{IsTree};
+ghost use Rattle.policy.specs.WellFormed.{AllZero, Examines};
+ghost use Rattle.policy.specs.Fine.{kindAt, PlaceFine, ShelfFine, ShelfIs, roleShelves, fileShelves, OneIs, AllAre, SlotIs, SlotsAre, TreeFine, TreeExamined};
+
+// The most roles and the most files; the slots.
+pub const ROLES: usize = 32;
+
+pub const FILES: usize = 32;
+
+pub const SLOTS: usize = 16;
+
+// The modes.
+pub const MODES: usize = 5;
+
+pub const READ: usize = 0;
+
+pub const WRITE: usize = 1;
+
+pub const EXECUTE: usize = 2;
+
+pub const DETECT: usize = 3;
+
+pub const CHANGE_PROTECTION: usize = 4;
+
+// A role's places: V+ and V- mode after mode, then M1, M2, B.
+pub const SENSES: usize = 2;
+
+pub const V_PLUS: usize = 0;
+
+pub const V_MINUS: usize = 1;
+
+pub const M1_PLACE: usize = SENSES * MODES;
+
+pub const M2_PLACE: usize = M1_PLACE + 1;
+
+pub const B_PLACE: usize = M1_PLACE + 2;
+
+pub const ROLE_PLACES: usize = M1_PLACE + 3;
+
+pub const ROLE_BYTES: usize = LONGEST * ROLE_PLACES;
+
+// A file's places: T1, E, T2, G mode after mode.
+pub const PARTS: usize = 4;
+
+pub const T1: usize = 0;
+
+pub const E: usize = 1;
+
+pub const T2: usize = 2;
+
+pub const G: usize = 3;
+
+pub const FILE_PLACES: usize = PARTS * MODES;
+
+pub const FILE_BYTES: usize = LONGEST * FILE_PLACES;
+
+// A role and a file are shelves of expressions: place k has its length in `lens[k]`, and room for its bytes from 48 k on.
+pub struct Role {
+    pub lens: [u8; ROLE_PLACES],
+    pub bytes: [u8; ROLE_BYTES],
+}
+
+pub struct File {
+    pub lens: [u8; FILE_PLACES],
+    pub bytes: [u8; FILE_BYTES],
+}
+
+// A slot is free or holds a role number. A free one keeps nothing.
+pub enum Hold {
+    Free,
+    By(u8),
+}
+
+pub struct Slot {
+    pub hold: Hold,
+}
+
+pub struct State {
+    pub tree: Tree,
+    pub nroles: usize,
+    pub roles: [Role; ROLES],
+    pub nfiles: usize,
+    pub files: [File; FILES],
+    pub slots: [Slot; SLOTS],
+}
+
+// What the test of a state finds: whether it is well formed, and if so the levels of its securons, and the role and the file that were asked for.
+pub struct Examined {
+    pub ok: bool,
+    pub levels: Levels,
+    pub role: Role,
+    pub file: File,
+}
+
+// What the tests of the tree, the roles and the files find.
+struct Grown {
+    ok: bool,
+    levels: Levels,
+}
+
+struct Roles {
+    ok: bool,
+    role: Role,
+}
+
+struct Files {
+    ok: bool,
+    file: File,
+}
+
+// The place of V+ or V- of a mode.
+pub fn role_place(mode: usize, sense: usize) -> usize
+    requires { ⌜ (mode < modeCount) × (sense < senses) ⌝ }
+    ensures { λ r. ⌜ r ≡ rolePlace mode sense ⌝ }
+{
+    SENSES * mode + sense
+}
+
+// The place of T1, E, T2 or G of a mode.
+pub fn file_place(mode: usize, part: usize) -> usize
+    requires { ⌜ (mode < modeCount) × (part < parts) ⌝ }
+    ensures { λ r. ⌜ r ≡ filePlace mode part ⌝ }
+{
+    PARTS * mode + part
+}
+
+// Whether every byte is zero. A flag and no early return, so that the loop can be vectorised.
+fn all_zero(s: &[u8]) -> bool
+    ensures { λ r. ⌜ (r ≡ true) ↔ AllZero (now (s .entry)) ⌝ }
+{
+    let mut zero = true;
+    for i in 0..s.len() {
+        zero = zero & (s[i] == 0);
+    }
+    zero
+}
+
+// A byte as a number that counts.
+fn wide(x: u8) -> usize
+    ensures { λ r. ⌜ r ≡ x ⌝ }
+{
+    x as usize
+}
+
+// The kind of the expression at place k: T1 and T2 of a file are protection expressions, all others privilege expressions.
+pub fn kind_at(file: bool, k: usize) -> Kind
+    ensures { λ r. ⌜ r ≡ kindAt file k ⌝ }
+{
+    if file & (k % 2 == 0) {
+        return Kind::Protection;
+    }
+    Kind::Privilege
+}
+
+// Whether an expression is in order for its kind.
+fn in_order(b: &[u8], kind: Kind, n: usize, depth: Level) -> bool
+    requires { ⌜ 0 < n ⌝ }
+    ensures { λ r. ⌜ (r ≡ true) ↔ InOrder kind n (depth .0) (now (b .entry)) ⌝ }
+{
+    let found = expression::check(b, kind, n, depth);
+    match found {
+        Checked::Fine => true,
+        Checked::Wrong(_) => false,
+    }
+}
+
+// One place of a shelf: its expression in order, and zero past it.
+fn place_fine<'a>(
+    file: bool,
+    n: usize,
+    depth: Level,
+    lens: &'a [u8],
+    bytes: &'a [u8],
+    k: usize,
+) -> bool
+    requires { ⌜ (0 < n) × (k < length (now lens)) × (longest * k + longest ≤ length (now bytes)) ⌝ }
+    ensures { λ r. ⌜ (r ≡ true) ↔ PlaceFine (kindAt file k) n (depth .0) (now (lens .entry)) (now (bytes .entry)) k ⌝ }
+{
+    let m = wide(lens[k]);
+    if LONGEST < m {
+        return false;
+    }
+    let at = LONGEST * k;
+    let end = at + m;
+    let next = at + LONGEST;
+    let fine = in_order(&bytes[at..end], kind_at(file, k), n, depth);
+    fine & all_zero(&bytes[end..next])
+}
+
+// Every place of a shelf.
+fn shelf_fine<'a>(file: bool, n: usize, depth: Level, lens: &'a [u8], bytes: &'a [u8]) -> bool
+    requires { ⌜ (0 < n) × (length (now bytes) ≡ longest * length (now lens)) ⌝ }
+    ensures { λ r. ⌜ (r ≡ true) ↔ ShelfFine file n (depth .0) (now (lens .entry)) (now (bytes .entry)) ⌝ }
+{
+    let mut ok = true;
+    for k in 0..lens.len() {
+        ok = ok & place_fine(file, n, depth, lens, bytes, k);
+    }
+    ok
+}
+
+// A shelf that is used is fine; one that is not is zero.
+fn shelf_is<'a>(
+    used: bool,
+    file: bool,
+    n: usize,
+    depth: Level,
+    lens: &'a [u8],
+    bytes: &'a [u8],
+) -> bool
+    requires { ⌜ (0 < n) × (length (now bytes) ≡ longest * length (now lens)) ⌝ }
+    ensures { λ r. ⌜ (r ≡ true) ↔ ShelfIs used file (length (now (lens .entry))) n (depth .0) (now (lens .entry)) (now (bytes .entry)) ⌝ }
+{
+    if used {
+        return shelf_fine(file, n, depth, lens, bytes);
+    }
+    all_zero(lens) & all_zero(bytes)
+}
+
+// One role, used or not: a shelf of privilege expressions.
+fn role_is(r: Role, used: bool, n: usize, depth: Level) -> bool
+    requires { ⌜ 0 < n ⌝ }
+    ensures { λ x. ⌜ (x ≡ true) ↔ OneIs roleShelves used n (depth .0) r ⌝ }
+{
+    shelf_is(used, false, n, depth, &r.lens, &r.bytes)
+}
+
+// One file, used or not: a shelf with protection expressions at T1 and T2.
+fn file_is(f: File, used: bool, n: usize, depth: Level) -> bool
+    requires { ⌜ 0 < n ⌝ }
+    ensures { λ x. ⌜ (x ≡ true) ↔ OneIs fileShelves used n (depth .0) f ⌝ }
+{
+    shelf_is(used, true, n, depth, &f.lens, &f.bytes)
+}
+
+// A number below `most`: the one that is asked for, where it is one.
+fn below(want: usize, most: usize) -> usize
+    requires { ⌜ 0 < most ⌝ }
+    ensures { λ r. ⌜ (r < most) × (want < most → r ≡ want) ⌝ }
+{
+    if want < most {
+        return want;
+    }
+    0
+}
+
+// The roles below the count are fine, the others zero; and the role that is asked for.
+fn roles_are(roles: [Role; ROLES], count: usize, n: usize, depth: Level, want: usize) -> Roles
+    requires { ⌜ 0 < n ⌝ }
+    ensures { λ x. ⌜ ((x .ok ≡ true) ↔ AllAre roleShelves count n (depth .0) roles) × (want < mostRoles → x .role ≡ getD roles want offRole) ⌝ }
+{
+    let mut ok = true;
+    for i in 0..ROLES {
+        let r = roles[i];
+        ok = ok & role_is(r, i < count, n, depth);
+    }
+    let at = below(want, ROLES);
+    let role = roles[at];
+    Roles { ok, role }
+}
+
+// The files below the count are fine, the others zero; and the file that is asked for.
+fn files_are(files: [File; FILES], count: usize, n: usize, depth: Level, want: usize) -> Files
+    requires { ⌜ 0 < n ⌝ }
+    ensures { λ x. ⌜ ((x .ok ≡ true) ↔ AllAre fileShelves count n (depth .0) files) × (want < mostFiles → x .file ≡ getD files want offFile) ⌝ }
+{
+    let mut ok = true;
+    for i in 0..FILES {
+        let f = files[i];
+        ok = ok & file_is(f, i < count, n, depth);
+    }
+    let at = below(want, FILES);
+    let file = files[at];
+    Files { ok, file }
+}
+
+// A role that a slot holds is below the count.
+fn slot_is(s: Slot, count: usize) -> bool
+    ensures { λ x. ⌜ (x ≡ true) ↔ SlotIs count s ⌝ }
+{
+    let h = s.hold;
+    match h {
+        Hold::Free => true,
+        Hold::By(r) => wide(r) < count,
+    }
+}
+
+// Every held role is below the count.
+fn slots_are(slots: [Slot; SLOTS], count: usize) -> bool
+    ensures { λ x. ⌜ (x ≡ true) ↔ SlotsAre count slots ⌝ }
+{
+    let mut ok = true;
+    for i in 0..SLOTS {
+        let s = slots[i];
+        ok = ok & slot_is(s, count);
+    }
+    ok
+}
+
+// Of a tree, whether the parents that no securon has, those of the root and from n up, are zero.
+fn rest_zero(tree: Tree) -> bool
+    requires { ⌜ IsTree tree ⌝ }
+    ensures { λ x. ⌜ (x ≡ true) ↔ TreeFine tree ⌝ }
+{
+    let n = tree.n;
+    let parent = tree.parent;
+    (parent[0] == 0) & all_zero(&parent[n..])
+}
+
+// Whether it is a tree, and unused room is zero.
+fn tree_fine(tree: Tree) -> bool
+    ensures { λ x. ⌜ (x ≡ true) ↔ TreeFine tree ⌝ }
+{
+    let shape = tree.shape();
+    match shape {
+        Shape::Grown => rest_zero(tree),
+        Shape::CountWrong => false,
+        Shape::ParentWrong(_) => false,
+    }
+}
+
+// The same, with the levels of a tree that is fine.
+fn examine_tree(tree: Tree) -> Grown
+    ensures { λ r. ⌜ TreeExamined tree r ⌝ }
+{
+    if tree_fine(tree) {
+        let levels = tree.levels();
+        return Grown { ok: true, levels };
+    }
+    let levels = Levels {
+        of: [0u8; SECURONS],
+        depth: Level(0),
+    };
+    Grown { ok: false, levels }
+}
+
+// A role that is not there: zero.
+fn no_role() -> Role
+    ensures { λ r. ⌜ r ≡ noRole ⌝ }
+{
+    Role {
+        lens: [0u8; ROLE_PLACES],
+        bytes: [0u8; ROLE_BYTES],
+    }
+}
+
+// A file that is not there: zero.
+fn no_file() -> File
+    ensures { λ r. ⌜ r ≡ noFile ⌝ }
+{
+    File {
+        lens: [0u8; FILE_PLACES],
+        bytes: [0u8; FILE_BYTES],
+    }
+}
+
+// The expression at place k of a shelf: a part of its bytes.
+pub fn stored<'a>(lens: &'a [u8], bytes: &'a [u8], k: usize) -> &'a [u8]
+    requires { ⌜ (k < length (now lens)) × (getD (now lens) k 0 ≤ longest) × (longest * k + longest ≤ length (now bytes)) ⌝ }
+    ensures { λ r. ⌜ now r ≡ storedAt (now (lens .entry)) (now (bytes .entry)) k ⌝ }
+{
+    let start = LONGEST * k;
+    let end = start + wide(lens[k]);
+    &bytes[start..end]
+}
+
+// The byte at i, and zero past the end.
+fn byte_or_zero(x: &[u8], i: usize) -> u8
+    ensures { λ r. ⌜ r ≡ getD (now (x .entry)) i 0 ⌝ }
+{
+    if i < x.len() {
+        return x[i];
+    }
+    0
+}
+
+// Stores the bytes of x at place k of a shelf, and zero past them; all else stays.
+pub fn put_bytes(bytes: &mut [u8], k: usize, x: &[u8])
+    requires { ⌜ (length (now x) ≤ longest) × (longest * k + longest ≤ length (now bytes)) ⌝ }
+    ensures { λ r. ⌜ now (bytes .exit) ≡ putBytes (now (bytes .entry)) k (now (x .entry)) ⌝ }
+{
+    let at = LONGEST * k;
+    for i in 0..LONGEST {
+        bytes[at + i] = byte_or_zero(x, i);
+    }
+}
+
+impl Role {
+    // The role with x stored at place k.
+    pub fn put(self, k: usize, x: &[u8]) -> Role
+        requires { ⌜ (k < rolePlaces) × (length (now x) ≤ longest) ⌝ }
+        ensures { λ r. ⌜ r ≡ putRole self k (now (x .entry)) ⌝ }
+    {
+        let mut lens = self.lens;
+        let mut bytes = self.bytes;
+        lens[k] = x.len() as u8;
+        put_bytes(&mut bytes, k, x);
+        Role { lens, bytes }
+    }
+}
+
+impl File {
+    // The file with x stored at place k.
+    pub fn put(self, k: usize, x: &[u8]) -> File
+        requires { ⌜ (k < filePlaces) × (length (now x) ≤ longest) ⌝ }
+        ensures { λ r. ⌜ r ≡ putFile self k (now (x .entry)) ⌝ }
+    {
+        let mut lens = self.lens;
+        let mut bytes = self.bytes;
+        lens[k] = x.len() as u8;
+        put_bytes(&mut bytes, k, x);
+        File { lens, bytes }
+    }
+
+    // The file with x stored at place k, and y two places on: T1 with T2, or E with G.
+    pub fn put_pair(self, k: usize, x: &[u8], y: &[u8]) -> File
+        requires { ⌜ (k + 2 < filePlaces) × (length (now x) ≤ longest) × (length (now y) ≤ longest) ⌝ }
+        ensures { λ r. ⌜ r ≡ putPair self k (now (x .entry)) (now (y .entry)) ⌝ }
+    {
+        let first = self.put(k, x);
+        first.put(k + 2, y)
+    }
+}
+
+impl State {
+    // The fresh state has the root alone, no role, no file, all slots free.
+    pub fn fresh() -> State
+        ensures { λ r. ⌜ r ≡ freshState ⌝ }
+    {
+        let tree = Tree {
+            n: 1,
+            parent: [0u8; SECURONS],
+        };
+        let role = no_role();
+        let file = no_file();
+        let slot = Slot { hold: Hold::Free };
+        State {
+            tree,
+            nroles: 0,
+            roles: [role; ROLES],
+            nfiles: 0,
+            files: [file; FILES],
+            slots: [slot; SLOTS],
+        }
+    }
+
+    // Whether the state is well formed; and if so the levels of its securons, and the role and the file that a request names, so that a request has each but once.
+    pub fn well_formed(self, role: usize, file: usize) -> Examined
+        ensures { λ r. ⌜ Examines self role file r ⌝ }
+    {
+        let tree = self.tree;
+        let grown = examine_tree(tree);
+        let levels = grown.levels;
+        if !grown.ok {
+            let none = no_role();
+            let nothing = no_file();
+            return Examined {
+                ok: false,
+                levels,
+                role: none,
+                file: nothing,
+            };
+        }
+        let depth = levels.depth;
+        let n = tree.n;
+        let nroles = self.nroles;
+        let nfiles = self.nfiles;
+        let roles = self.roles;
+        let files = self.files;
+        let slots = self.slots;
+        let walked = roles_are(roles, nroles, n, depth, role);
+        let passed = files_are(files, nfiles, n, depth, file);
+        let held = slots_are(slots, nroles);
+        let counts = (nroles <= ROLES) & (nfiles <= FILES);
+        let mine = walked.role;
+        let its = passed.file;
+        Examined {
+            ok: counts & walked.ok & passed.ok & held,
+            levels,
+            role: mine,
+            file: its,
+        }
+    }
+
+    // Role i.
+    pub fn role(self, i: usize) -> Role
+        requires { ⌜ i < mostRoles ⌝ }
+        ensures { λ r. ⌜ r ≡ roleAt self i ⌝ }
+    {
+        let all = self.roles;
+        all[i]
+    }
+
+    // File i.
+    pub fn file(self, i: usize) -> File
+        requires { ⌜ i < mostFiles ⌝ }
+        ensures { λ r. ⌜ r ≡ fileAt self i ⌝ }
+    {
+        let every = self.files;
+        every[i]
+    }
+
+    // What slot i holds.
+    pub fn hold(self, i: usize) -> Hold
+        requires { ⌜ i < slotCount ⌝ }
+        ensures { λ r. ⌜ r ≡ holdOf self i ⌝ }
+    {
+        let slots = self.slots;
+        let slot = slots[i];
+        slot.hold
+    }
+
+    // The same state with slot i holding `hold`.
+    pub fn with_hold(mut self, i: usize, hold: Hold) -> State
+        requires { ⌜ i < slotCount ⌝ }
+        ensures { λ r. ⌜ r ≡ withHold self i hold ⌝ }
+    {
+        let mut slots = self.slots;
+        slots[i] = Slot { hold };
+        self.slots = slots;
+        self
+    }
+
+    // The same state with another file i.
+    pub fn with_file(mut self, i: usize, f: File) -> State
+        requires { ⌜ i < mostFiles ⌝ }
+        ensures { λ r. ⌜ r ≡ withFile self i f ⌝ }
+    {
+        self.files[i] = f;
+        self
+    }
+
+    // The same state with x stored at place k of a file, and y two places on: T1 with T2, or E with G.
+    pub fn with_pair(mut self, file: usize, k: usize, x: &[u8], y: &[u8]) -> State
+        requires { ⌜ (file < mostFiles) × (k + 2 < filePlaces) × (length (now x) ≤ longest) × (length (now y) ≤ longest) ⌝ }
+        ensures { λ r. ⌜ r ≡ withPair self file k (now (x .entry)) (now (y .entry)) ⌝ }
+    {
+        let files = self.files;
+        let old = files[file];
+        let next = old.put_pair(k, x, y);
+        self.files[file] = next;
+        self
+    }
+}

@@ -1,0 +1,4 @@
+pub mod Script
+pub mod Records
+pub mod Playing
+pub mod PlayLaws

@@ -1,0 +1,48 @@
+-- What is said where no call is made, and what is known of the parts of a record. Assumes nothing.
+use mathlib.Core.Path.{_≡_, refl, sym, ap, _∙_, subst}
+use mathlib.Core.Bool.{Bool, true}
+use mathlib.Core.List.{List, []}
+use Prim.Native.Nat.{ℕ, _+_, _-_, _<_, _≤_}
+use native.Mathlib.Omega.{arith}
+use lib.ListN.{length, getD, take, drop}
+use Rattle.answer.specs.declared.Answer.{Answer}
+use Rattle.policy.specs.declared.State.{State}
+use Rattle.script.specs.declared.Next.{Next}
+use Rattle.script.specs.declared.Next.the-variants.{Ended, Cut}
+use Rattle.script.specs.Records.{NoRecord, secondAt, endAt, firstOf, secondOf, Stored}
+use Rattle.script.specs.Playing.{Bounded, NextIs}
+
+module _ (s : State) (bs : List ℕ) (a : Answer) (t : State) (n : Next) where
+  pub says-cut : n ≡ Cut → 0 < length bs → NoRecord bs → NextIs s bs a t n
+  says-cut e h none = subst (NextIs s bs a t) (sym e) ((λ q. let z = ap length q in omega arith), none)
+
+  pub says-ended : n ≡ Ended → bs ≡ [] → NextIs s bs a t n
+  says-ended e q = subst (NextIs s bs a t) (sym e) q
+
+-- what is known of a record 04 or 05 whose bytes are all there
+pub record Parts (bs : List ℕ) (mid end : ℕ) : Type 0 where
+  pub stored : Stored bs
+  pub low : 5 ≤ mid
+  pub further : mid + 1 ≤ end
+  pub all : end ≤ length bs
+  pub end-is : end ≡ endAt bs
+  pub first : take (mid - 5) (drop 5 bs) ≡ firstOf bs
+  pub second : take (end - (mid + 1)) (drop (mid + 1) bs) ≡ secondOf bs
+
+pub parts : {bs : List ℕ} {whole : Bool} {mid end : ℕ} → Bounded bs whole mid end → whole ≡ true → Parts bs mid end
+parts {bs} {whole} {mid} {end} b w =
+    let m = b .mid-is w in
+    let e = b .end-is w in
+    let s = b .stored w in
+    let k : mid - 5 ≡ getD bs 4 0 = omega arith in
+    let j : end - (mid + 1) ≡ getD bs (secondAt bs) 0 = omega arith in
+    let n : mid + 1 ≡ secondAt bs + 1 = omega arith in
+    record {
+      stored = s;
+      low = omega arith;
+      further = omega arith;
+      all = omega (arith, s .all);
+      end-is = e;
+      first = ap (λ (x : ℕ). take x (drop 5 bs)) k;
+      second = ap (λ (x : ℕ). take x (drop (mid + 1) bs)) j ∙ ap (λ (x : ℕ). take (getD bs (secondAt bs) 0) (drop x bs)) n;
+    }

@@ -1,0 +1,53 @@
+-- What the replay program reads, and what it prints (01, "The replay program"). Definitions only.
+use mathlib.Core.Path.{_≡_}
+use mathlib.Core.List.{List, [], _∷_, _++_}
+use mathlib.Core.Logic.{_⊎_}
+use Prim.Native.Nat.{ℕ, _+_, _*_, _<_, _≤_}
+use lib.ListN.{length, getD, take, drop}
+use Rattle.answer.specs.declared.Answer.{Answer}
+use Rattle.policy.specs.declared.State.{State}
+use Rattle.policy.specs.State.{freshState}
+use Rattle.image.specs.Image.{lowFirst, expressionBytes}
+use Rattle.claims.specs.Trace.{Request, load, begin, end, ask, change, bypass, Step}
+use Rattle.lines.specs.Lines.{Line}
+
+-- a record and what comes after it: 01 slot role; 02 slot; 03 slot file mode; 04 or 05 slot file mode, length byte and bytes, twice (change, bypass)
+pub data Reads : List ℕ → Request → List ℕ → Type 0 where
+  a-begin : {slot role : ℕ} {rest : List ℕ} → Reads (1 ∷ slot ∷ role ∷ rest) (begin slot role) rest
+  an-end : {slot : ℕ} {rest : List ℕ} → Reads (2 ∷ slot ∷ rest) (end slot) rest
+  an-ask : {slot file mode : ℕ} {rest : List ℕ} → Reads (3 ∷ slot ∷ file ∷ mode ∷ rest) (ask slot file mode) rest
+  a-change : {slot file mode : ℕ} {x y rest : List ℕ} → Reads (4 ∷ slot ∷ file ∷ mode ∷ (expressionBytes x ++ (expressionBytes y ++ rest))) (change slot file mode x y) rest
+  a-bypass : {slot file mode : ℕ} {x y rest : List ℕ} → Reads (5 ∷ slot ∷ file ∷ mode ∷ (expressionBytes x ++ (expressionBytes y ++ rest))) (bypass slot file mode x y) rest
+
+-- `cut` and a line end
+abbrev pub cutLine : List ℕ
+cutLine = 99 ∷ 117 ∷ 116 ∷ 10 ∷ []
+
+-- from the state s these bytes print this: per call the number, a space, the place, and a line end; a broken-off or unknown record prints `cut` and stops; input that ends between two records ends the run with no further line
+pub data Plays : State → List ℕ → List ℕ → Type 0 where
+  ended : {s : State} → Plays s [] []
+  called : {s t : State} {bytes rest line printed : List ℕ} {q : Request} {a : Answer} → Reads bytes q rest → Step s q a t → Line a [] line → Plays t rest printed → Plays s bytes (line ++ printed)
+  cut : {s : State} {bytes : List ℕ} → (bytes ≡ [] → ⊥) → ((q : Request) (rest : List ℕ) → Reads bytes q rest → ⊥) → Plays s bytes cutLine
+
+-- the image: as many bytes as the first two say, low byte first; a short one as far as it goes
+abbrev pub stated : List ℕ → ℕ
+stated input = lowFirst (getD input 0 0) (getD input 1 0)
+
+abbrev pub imageIn : List ℕ → List ℕ
+imageIn input = take (stated input) (drop 2 input)
+
+-- what the whole input prints: under two bytes, `cut`; else the line of the load into the fresh state, and then, where the image was all there, what the records print from the state that the load left
+pub record Loaded (input printed : List ℕ) : Type 0 where
+  pub two : 2 ≤ length input
+  pub answer : Answer
+  pub state : State
+  pub line : List ℕ
+  pub rest : List ℕ
+  pub loads : Step freshState (load (imageIn input)) answer state
+  pub is-line : Line answer [] line
+  pub is : printed ≡ line ++ rest
+  pub whole : 2 + stated input ≤ length input → Plays state (drop (2 + stated input) input) rest
+  pub short : length input < 2 + stated input → rest ≡ []
+
+abbrev pub Prints : List ℕ → List ℕ → Type 0
+Prints input printed = ((length input < 2) × (printed ≡ cutLine)) ⊎ Loaded input printed
