@@ -8,3 +8,4 @@ pub mod Places
 pub mod Settled
 pub mod Answers
 pub mod OnePolicy
+pub mod Takes
