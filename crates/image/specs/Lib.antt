@@ -9,3 +9,5 @@ pub mod Settled
 pub mod Answers
 pub mod OnePolicy
 pub mod Takes
+pub mod Whole
+pub mod Laws
