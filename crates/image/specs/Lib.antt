@@ -8,3 +8,6 @@ pub mod Places
 pub mod Settled
 pub mod Answers
 pub mod OnePolicy
+pub mod Takes
+pub mod Whole
+pub mod Laws

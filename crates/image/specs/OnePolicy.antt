@@ -162,7 +162,7 @@ module _ {n d m e : ℕ} where
       ap₂ (λ (l b : List ℕ). record { lens = l; bytes = b }) (v .0) (v .1)
 
 -- the parents
-parents-length : (t : Tree) → TreeFine t → length (parentBytes t) ≡ t .n - 1
+pub parents-length : (t : Tree) → TreeFine t → length (parentBytes t) ≡ t .n - 1
 parents-length t f = length-take-le (t .n - 1) (drop 1 (t .parent)) (omega (arith, length-drop 1 (t .parent), f .room, f .is-tree .count .0, f .is-tree .count .1))
 
 tree-same : (t u : Tree) → TreeFine t → TreeFine u → t .n ≡ u .n → parentBytes t ≡ parentBytes u → t ≡ u
