@@ -11,7 +11,7 @@ use Rattle.policy.specs.declared.File.{File}
 use Rattle.policy.specs.declared.Hold.{Hold}
 use Rattle.policy.specs.declared.Slot.{Slot}
 use Rattle.policy.specs.declared.State.{State}
-use Rattle.policy.specs.State.{slotCount, modeCount, filePlaces, storedAt, offFile, freeSlot, fileAt, holdOf, filePart, t1Of, eOf, t2Of, gOf, t1Place, ePlace, t2Place, gPlace, putBytes, putFile, putPair, withHold, withPair, withT1T2, withEG}
+use Rattle.policy.specs.State.{slotCount, modeCount, filePlaces, storedAt, offFile, freeSlot, fileAt, holdOf, filePart, t1Of, eOf, t2Of, gOf, parts, filePlace, putBytes, putFile, putPair, withHold, withPair, withT1T2, withEG}
 use Rattle.policy.specs.WellFormed.{HasPlaces, HasRoom, WellFormed}
 use Rattle.policy.specs.Parts.{file-by-place}
 use Rattle.policy.specs.Shelves.{stored-put, stored-other}
@@ -72,51 +72,44 @@ module _ (s : State) (w : WellFormed s) (file : ℕ) (present : file < s .nfiles
           ∙ ap (λ (q : ℕ). filePart (fileAt s q) j) (sym e)
       go (no n) = ap (λ (f : File). filePart f j) (getD-set-other (s .files) file i (putPair (fileAt s file) k x y) offFile n)
 
--- after a change: T1 and T2 of that row are those stored, and every other part of every file is as before
-pub record Changed (s r : State) (file mode : ℕ) (x y : List ℕ) : Type 0 where
-  pub t1-here : t1Of r file mode ≡ x
-  pub t2-here : t2Of r file mode ≡ y
-  pub t1-else : (i m : ℕ) → m < modeCount → ((i ≡ file) × (m ≡ mode) → ⊥) → t1Of r i m ≡ t1Of s i m
-  pub t2-else : (i m : ℕ) → m < modeCount → ((i ≡ file) × (m ≡ mode) → ⊥) → t2Of r i m ≡ t2Of s i m
-  pub e-all : (i m : ℕ) → m < modeCount → eOf r i m ≡ eOf s i m
-  pub g-all : (i m : ℕ) → m < modeCount → gOf r i m ≡ gOf s i m
-
--- after a bypass: E and G of that row are those stored, and every other part of every file is as before
-pub record Bypassed (s r : State) (file mode : ℕ) (x y : List ℕ) : Type 0 where
-  pub e-here : eOf r file mode ≡ x
-  pub g-here : gOf r file mode ≡ y
-  pub e-else : (i m : ℕ) → m < modeCount → ((i ≡ file) × (m ≡ mode) → ⊥) → eOf r i m ≡ eOf s i m
-  pub g-else : (i m : ℕ) → m < modeCount → ((i ≡ file) × (m ≡ mode) → ⊥) → gOf r i m ≡ gOf s i m
-  pub t1-all : (i m : ℕ) → m < modeCount → t1Of r i m ≡ t1Of s i m
-  pub t2-all : (i m : ℕ) → m < modeCount → t2Of r i m ≡ t2Of s i m
-
--- one row is not another
-other : {i file m mode : ℕ} {A B : Type 0} → ((i ≡ file) × (m ≡ mode) → ⊥) → (A → m ≡ mode) → (B → m ≡ mode) → i ≡ file → (A → ⊥) × (B → ⊥)
-other n f g e = ((λ a. n (e, f a)), λ b. n (e, g b))
+-- after a store of the parts p and q of a row: they are those stored, and every other part of every file is as before
+pub record RowStored (s r : State) (file mode p q : ℕ) (x y : List ℕ) : Type 0 where
+  pub first : filePart (fileAt r file) (filePlace mode p) ≡ x
+  pub second : filePart (fileAt r file) (filePlace mode q) ≡ y
+  pub others : (i m c : ℕ) → m < modeCount → c < parts → (i ≡ file → m ≡ mode → (c ≡ p → ⊥) × (c ≡ q → ⊥)) → filePart (fileAt r i) (filePlace m c) ≡ filePart (fileAt s i) (filePlace m c)
 
 module _ (s : State) (w : WellFormed s) (file : ℕ) (present : file < s .nfiles) (mode : ℕ) (few : mode < modeCount) (x y : List ℕ) (hx : length x ≤ longest) (hy : length y ≤ longest) where
-  pub t1t2-reads : Changed s (withT1T2 s file mode x y) file mode x y
-  t1t2-reads =
-      let else = pair-else s w file present (t1Place mode) (omega arith) x y hx hy in
-      let two : t1Place mode + 2 ≡ t2Place mode = omega arith in
-      record {
-        t1-here = pair-first s w file present (t1Place mode) (omega arith) x y hx hy;
-        t2-here = ap (λ (k : ℕ). filePart (fileAt (withT1T2 s file mode x y) file) k) (sym two) ∙ pair-second s w file present (t1Place mode) (omega arith) x y hx hy;
-        t1-else = λ i m h n. else i (t1Place m) (omega arith) (other n (λ e. omega arith) (λ e. omega arith));
-        t2-else = λ i m h n. else i (t2Place m) (omega arith) (other n (λ e. omega arith) (λ e. omega arith));
-        e-all = λ i m h. else i (ePlace m) (omega arith) (λ _. ((λ e. omega arith), λ e. omega arith));
-        g-all = λ i m h. else i (gPlace m) (omega arith) (λ _. ((λ e. omega arith), λ e. omega arith));
-      }
+  row-reads : (p : ℕ) → p < 2 → RowStored s (withPair s file (filePlace mode p) x y) file mode p (p + 2) x y
+  row-reads p h = record {
+    first = pair-first s w file present (filePlace mode p) (omega arith) x y hx hy;
+    second =
+        let two : filePlace mode p + 2 ≡ filePlace mode (p + 2) = omega arith in
+        ap (λ (k : ℕ). filePart (fileAt (withPair s file (filePlace mode p) x y) file) k) (sym two)
+        ∙ pair-second s w file present (filePlace mode p) (omega arith) x y hx hy;
+    others = λ i m c l k apart.
+        pair-else s w file present (filePlace mode p) (omega arith) x y hx hy i (filePlace m c) (omega arith) (λ e. (
+          (λ q. let same : m ≡ mode = omega arith in apart e same .0 (omega arith)),
+          λ q. let same : m ≡ mode = omega arith in apart e same .1 (omega arith),
+        ));
+  }
 
-  pub eg-reads : Bypassed s (withEG s file mode x y) file mode x y
-  eg-reads =
-      let else = pair-else s w file present (ePlace mode) (omega arith) x y hx hy in
-      let two : ePlace mode + 2 ≡ gPlace mode = omega arith in
-      record {
-        e-here = pair-first s w file present (ePlace mode) (omega arith) x y hx hy;
-        g-here = ap (λ (k : ℕ). filePart (fileAt (withEG s file mode x y) file) k) (sym two) ∙ pair-second s w file present (ePlace mode) (omega arith) x y hx hy;
-        e-else = λ i m h n. else i (ePlace m) (omega arith) (other n (λ e. omega arith) (λ e. omega arith));
-        g-else = λ i m h n. else i (gPlace m) (omega arith) (other n (λ e. omega arith) (λ e. omega arith));
-        t1-all = λ i m h. else i (t1Place m) (omega arith) (λ _. ((λ e. omega arith), λ e. omega arith));
-        t2-all = λ i m h. else i (t2Place m) (omega arith) (λ _. ((λ e. omega arith), λ e. omega arith));
-      }
+  -- change: T1 and T2
+  pub t1t2-reads : RowStored s (withT1T2 s file mode x y) file mode 0 2 x y
+  t1t2-reads = row-reads 0 (omega arith)
+
+  -- bypass: E and G
+  pub eg-reads : RowStored s (withEG s file mode x y) file mode 1 3 x y
+  eg-reads = row-reads 1 (omega arith)
+
+  -- so a change leaves every E and G as it is, and a bypass every T1 and T2
+  pub change-keeps : (i m : ℕ) → m < modeCount → (eOf (withT1T2 s file mode x y) i m ≡ eOf s i m) × (gOf (withT1T2 s file mode x y) i m ≡ gOf s i m)
+  change-keeps i m h = (
+    t1t2-reads .others i m 1 h (omega arith) (λ _ _. ((λ e. omega arith), λ e. omega arith)),
+    t1t2-reads .others i m 3 h (omega arith) (λ _ _. ((λ e. omega arith), λ e. omega arith)),
+  )
+
+  pub bypass-keeps : (i m : ℕ) → m < modeCount → (t1Of (withEG s file mode x y) i m ≡ t1Of s i m) × (t2Of (withEG s file mode x y) i m ≡ t2Of s i m)
+  bypass-keeps i m h = (
+    eg-reads .others i m 0 h (omega arith) (λ _ _. ((λ e. omega arith), λ e. omega arith)),
+    eg-reads .others i m 2 h (omega arith) (λ _ _. ((λ e. omega arith), λ e. omega arith)),
+  )
