@@ -237,6 +237,6 @@ a-bypass-can-break-it =
           (next (bypass-step (heldBy 0) (held-well 0 (lit< tt)) 0 (lit< tt) 0 (held-is 0) 1 read (rw (sample-counts .1) (lit< tt)) (lit< tt) [] [] (changes-row 0 1 _ _ _ _ _ sample-role0 sample-file1) none-over none-over covered)
           none)));
       moved = read-then-write-moves 0 0 1 _;
-      last-passed = passes-empty afterBypass 1 (b .e-here) (b .g-here);
-      first-not-passed = fails-root afterBypass 0 (b .e-else 0 read (lit< tt) (λ w. omega (arith, w .0)) ∙ sample-file0 .e);
+      last-passed = passes-empty afterBypass 1 (b .first) (b .second);
+      first-not-passed = fails-root afterBypass 0 (b .others 0 read 1 (lit< tt) (lit< tt) (λ e. absurd (omega arith)) ∙ sample-file0 .e);
     }

@@ -16,7 +16,7 @@ use Rattle.policy.specs.declared.Hold.{Hold}
 use Rattle.policy.specs.declared.Hold.the-variants.{Free, By}
 use Rattle.policy.specs.declared.State.{State}
 use Rattle.policy.specs.State.{modeCount, slotCount, holdOf, eOf, gOf, m1Of, m2Of, rolePart, m1Place, m2Place, offRole, withHold, withT1T2}
-use Rattle.policy.specs.Reads.{hold-there, Changed, t1t2-reads}
+use Rattle.policy.specs.Reads.{hold-there, change-keeps}
 use Rattle.gate.specs.Requests.{beginConditions, endConditions, changeConditions}
 use Rattle.gate.specs.Lists.{granted-all}
 use Rattle.claims.specs.Trace.{Request, load, begin, end, ask, change, bypass, Step, Event, Run, none, next, Grants, Resets, Quiet, NoEnd}
@@ -66,8 +66,8 @@ module _ {s t : State} (a : Answer) where
       stored : Granted a → Kept s (withT1T2 s file mode x y)
       stored g =
           let w = granted-all (λ k. k ≡ 0) a (changeConditions s slot file mode x y) refl (st .decides) g in
-          let c = t1t2-reads s (w .0) file (w .1 .1 .1 .0) mode (w .1 .1 .1 .1 .0) x y (w .1 .1 .1 .1 .1 .1 .0 .2 .0) (w .1 .1 .1 .1 .1 .1 .1 .0 .2 .0) in
-          record { tree = refl; roles = refl; e = c .e-all; g = c .g-all }
+          let c = change-keeps s (w .0) file (w .1 .1 .1 .0) mode (w .1 .1 .1 .1 .0) x y (w .1 .1 .1 .1 .1 .1 .0 .2 .0) (w .1 .1 .1 .1 .1 .1 .1 .0 .2 .0) in
+          record { tree = refl; roles = refl; e = λ i m h. c i m h .0; g = λ i m h. c i m h .1 }
   step-keeps (bypass slot file mode x y) st quiet = kept-same (st .leaves .on-refusal (λ g. quiet g tt))
 
 pub run-keeps : {s t : State} {es : List Event} → Run s es t → Quiet es → Kept s t

@@ -8,6 +8,7 @@ use native.Mathlib.Nat.{le-refl}
 use native.Mathlib.Numerals.{add-one}
 use native.Mathlib.Omega.{arith}
 use borrow.Author.Needs.{zero≤}
+use borrow.Author.Tests.{lt-ltb}
 use lib.ListN.{length, take, drop, getD, replicate, length-append, length-drop, length-replicate, List·getD-append}
 use lib.Seq.{take-suc, take-at, drop-append-seam, getD-take, getD-drop, getD-append-add, ext-getD}
 use Rattle.answer.specs.Numbers.{endsEarly, countWrong, parentWrong}
@@ -20,9 +21,9 @@ use Rattle.policy.specs.declared.File.{File}
 use Rattle.policy.specs.declared.State.{State}
 use Rattle.policy.specs.State.{mostRoles, mostFiles, rolePlaces, filePlaces, storedAt, roleAt, fileAt}
 use Rattle.policy.specs.WellFormed.{WellFormed}
-use Rattle.policy.specs.Fine.{ShelfFine, RoleIs, FileIs, TreeFine, StateFine}
+use Rattle.policy.specs.Fine.{ShelfFine, TreeFine, StateFine, OneIs, roleShelves, fileShelves}
 use Rattle.policy.specs.Fresh.{zero-shelf}
-use Rattle.policy.specs.Whole.{used-fine, well-formed-fine}
+use Rattle.policy.specs.Whole.{well-formed-fine}
 use Rattle.image.specs.declared.Met.{Met}
 use Rattle.image.specs.declared.Met.the-variants.{Read, Refused}
 use Rattle.image.specs.Image.{each, markS, markP, markT, version1, parentBytes, expressionBytes, roleBytes, fileBytes, imageOf, IsImage, longestImage}
@@ -86,25 +87,25 @@ module _ (t : Tree) (f : TreeFine t) where
       record { reads = w .reads; cuts = w .cuts }
 
 module _ (n d : ℕ) where
-  takes-role : (r : Role) → RoleIs true n d r → (a : List ℕ) → Takes Any a (Meets (roleFields n d)) (roleBytes r)
-  takes-role r w a = subst (λ (fs : List Field). Takes Any a (Meets fs) (roleBytes r)) (sym (role-fields n d)) (subst (Takes Any a (Meets (shelfFields false n d rolePlaces))) (sym (role-bytes r)) (takes-shelf false n d rolePlaces (r .lens) (r .bytes) (w .places .lengths) (w .shelf .fine refl) a))
+  takes-role : (r : Role) → OneIs roleShelves true n d r → (a : List ℕ) → Takes Any a (Meets (roleFields n d)) (roleBytes r)
+  takes-role r w a = subst (λ (fs : List Field). Takes Any a (Meets fs) (roleBytes r)) (sym (role-fields n d)) (subst (Takes Any a (Meets (shelfFields false n d rolePlaces))) (sym (role-bytes r)) (takes-shelf false n d rolePlaces (r .lens) (r .bytes) (w .room .lengths) (w .fine refl) a))
 
-  takes-file : (f : File) → FileIs true n d f → (a : List ℕ) → Takes Any a (Meets (fileFields n d)) (fileBytes f)
-  takes-file f w a = subst (λ (fs : List Field). Takes Any a (Meets fs) (fileBytes f)) (sym (file-fields n d)) (subst (Takes Any a (Meets (shelfFields true n d filePlaces))) (sym (file-bytes f)) (takes-shelf true n d filePlaces (f .lens) (f .bytes) (w .places .lengths) (w .shelf .fine refl) a))
+  takes-file : (f : File) → OneIs fileShelves true n d f → (a : List ℕ) → Takes Any a (Meets (fileFields n d)) (fileBytes f)
+  takes-file f w a = subst (λ (fs : List Field). Takes Any a (Meets fs) (fileBytes f)) (sym (file-fields n d)) (subst (Takes Any a (Meets (shelfFields true n d filePlaces))) (sym (file-bytes f)) (takes-shelf true n d filePlaces (f .lens) (f .bytes) (w .room .lengths) (w .fine refl) a))
 
 module _ (s : State) (w : WellFormed s) where
   fine : StateFine s (w .depth)
   fine = well-formed-fine s (w .depth) (w .is-depth) w
 
-  role-used : (i : ℕ) → i < s .nroles → RoleIs true (s .tree .n) (w .depth) (roleAt s i)
+  role-used : (i : ℕ) → i < s .nroles → OneIs roleShelves true (s .tree .n) (w .depth) (roleAt s i)
   role-used i h =
       let it = fine .roles .each i (omega (arith, fine .role-count)) in
-      record { places = it .places; shelf = record { fine = λ _. used-fine (it .shelf) h; zero = λ e. absurd (let z : _≡_ {A = ℕ} 0 1 = cc in omega arith) } }
+      record { room = it .room; fine = λ _. it .fine (lt-ltb i _ h); zero = λ e. absurd (let z : _≡_ {A = ℕ} 0 1 = cc in omega arith) }
 
-  file-used : (i : ℕ) → i < s .nfiles → FileIs true (s .tree .n) (w .depth) (fileAt s i)
+  file-used : (i : ℕ) → i < s .nfiles → OneIs fileShelves true (s .tree .n) (w .depth) (fileAt s i)
   file-used i h =
       let it = fine .files .each i (omega (arith, fine .file-count)) in
-      record { places = it .places; shelf = record { fine = λ _. used-fine (it .shelf) h; zero = λ e. absurd (let z : _≡_ {A = ℕ} 0 1 = cc in omega arith) } }
+      record { room = it .room; fine = λ _. it .fine (lt-ltb i _ h); zero = λ e. absurd (let z : _≡_ {A = ℕ} 0 1 = cc in omega arith) }
 
   abbrev roles : List ℕ
   roles = each (s .nroles) (λ i. roleBytes (roleAt s i))
@@ -180,12 +181,12 @@ module _ (bytes : List ℕ) (s : State) (im : IsImage bytes s) where
       role-length : (i : ℕ) → i < s .nroles → length (roleBytes (roleAt s i)) ≤ rolePlaces * (1 + longest)
       role-length i h =
           let w = role-used s (im .well-formed) i h in
-          subst (λ (l : List ℕ). length l ≤ rolePlaces * (1 + longest)) (sym (role-bytes (roleAt s i))) (shelf-length false (s .tree .n) (im .well-formed .depth) rolePlaces (roleAt s i .lens) (roleAt s i .bytes) (w .places .lengths) (w .shelf .fine refl))
+          subst (λ (l : List ℕ). length l ≤ rolePlaces * (1 + longest)) (sym (role-bytes (roleAt s i))) (shelf-length false (s .tree .n) (im .well-formed .depth) rolePlaces (roleAt s i .lens) (roleAt s i .bytes) (w .room .lengths) (w .fine refl))
 
       file-length : (i : ℕ) → i < s .nfiles → length (fileBytes (fileAt s i)) ≤ filePlaces * (1 + longest)
       file-length i h =
           let w = file-used s (im .well-formed) i h in
-          subst (λ (l : List ℕ). length l ≤ filePlaces * (1 + longest)) (sym (file-bytes (fileAt s i))) (shelf-length true (s .tree .n) (im .well-formed .depth) filePlaces (fileAt s i .lens) (fileAt s i .bytes) (w .places .lengths) (w .shelf .fine refl))
+          subst (λ (l : List ℕ). length l ≤ filePlaces * (1 + longest)) (sym (file-bytes (fileAt s i))) (shelf-length true (s .tree .n) (im .well-formed .depth) filePlaces (fileAt s i .lens) (fileAt s i .bytes) (w .room .lengths) (w .fine refl))
 
 pub longest-is : longestImage ≡ 51815
 longest-is = refl
