@@ -46,8 +46,8 @@ module _ (bytes : List ℕ) (before : State) (r : Loaded) (p : Loads bytes befor
   granted-exactly = (
     (λ g. (r .state, p .leaves .on-grant g)),
     λ w.
-    let o = p .answers in
-    subst (λ (x : Met). Gives x (r .answer)) (settles-whole bytes 0 .one (o .0) (Read (length bytes)) (o .1) (image-read bytes (w .0) (w .1))) (o .2) .number,
+        let o = p .answers in
+        subst (λ (x : Met). Gives x (r .answer)) (settles-whole bytes 0 .one (o .0) (Read (length bytes)) (o .1) (image-read bytes (w .0) (w .1))) (o .2) .number,
   )
 
   -- and then the state after is that policy
