@@ -21,7 +21,7 @@ use Rattle.image.specs.Image.{IsImage}
 use Rattle.image.specs.Faults.{Whole}
 use Rattle.image.specs.Load.{Gives, Loads}
 use Rattle.image.specs.Settled.{settles-whole}
-use Rattle.image.specs.Answers.{granted-read, gives-one}
+use Rattle.image.specs.Answers.{gives-one}
 use Rattle.image.specs.OnePolicy.{one-policy}
 use Rattle.image.specs.Whole.{image-read, image-cut}
 use lib.ListN.{length, getD-replicate}
@@ -46,8 +46,8 @@ module _ (bytes : List ℕ) (before : State) (r : Loaded) (p : Loads bytes befor
   granted-exactly = (
     (λ g. (r .state, p .leaves .on-grant g)),
     λ w.
-    let o = p .answers in
-    subst (λ (x : Met). Gives x (r .answer)) (settles-whole bytes 0 .one (o .0) (Read (length bytes)) (o .1) (image-read bytes (w .0) (w .1))) (o .2) .number,
+        let o = p .answers in
+        subst (λ (x : Met). Gives x (r .answer)) (settles-whole bytes 0 .one (o .0) (Read (length bytes)) (o .1) (image-read bytes (w .0) (w .1))) (o .2) .number,
   )
 
   -- and then the state after is that policy

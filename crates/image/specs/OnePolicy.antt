@@ -10,18 +10,16 @@ use borrow.Author.Tests.{lt-ltb, le-ltb}
 use lib.Dec.{ltb}
 use lib.ListN.{length, take, drop, getD, length-drop}
 use lib.Seq.{take-append-seam, drop-append-seam, take-at, drop-at, length-take-le, getD-take, getD-drop, ext-getD}
-use Rattle.securon.specs.Sets.{securons}
 use Rattle.tree.specs.declared.Tree.{Tree}
 use Rattle.expression.specs.Bytes.{longest}
 use Rattle.policy.specs.declared.Role.{Role}
 use Rattle.policy.specs.declared.File.{File}
 use Rattle.policy.specs.declared.Hold.{Hold}
-use Rattle.policy.specs.declared.Hold.the-variants.{Free}
 use Rattle.policy.specs.declared.Slot.{Slot}
 use Rattle.policy.specs.declared.State.{State}
-use Rattle.policy.specs.State.{mostRoles, mostFiles, slotCount, rolePlaces, filePlaces, offRole, offFile, freeSlot, storedAt, roleAt, fileAt, holdOf}
-use Rattle.policy.specs.WellFormed.{HasPlaces, AllZero, ZeroShelf, WellFormed}
-use Rattle.policy.specs.Fine.{PlaceFine, ShelfFine, RoleIs, FileIs, TreeFine, StateFine}
+use Rattle.policy.specs.State.{mostRoles, mostFiles, slotCount, offRole, offFile, freeSlot, storedAt, roleAt, fileAt}
+use Rattle.policy.specs.WellFormed.{HasPlaces, AllZero, ZeroShelf}
+use Rattle.policy.specs.Fine.{ShelfFine, RoleIs, FileIs, TreeFine}
 use Rattle.policy.specs.Whole.{well-formed-fine}
 use Rattle.image.specs.Image.{each, parentBytes, expressionBytes, roleBytes, fileBytes, imageOf, IsImage}
 use Rattle.image.specs.Reading.{shelfBytes}
@@ -120,25 +118,25 @@ module _ {places : ℕ} {lens bytes lens' bytes' : List ℕ} (p : HasPlaces plac
 
 -- rows of two policies, of one count
 module _ {A : Type 0} (off : A) (bytesOf : A → List ℕ) (Is It : Bool → A → Type 0) (most : ℕ)
-  (used : (x y : A) → Is true x → It true y → (r q : List ℕ) → bytesOf x ++ r ≡ bytesOf y ++ q → (x ≡ y) × (r ≡ q))
-  (unused : (x y : A) → Is false x → It false y → x ≡ y)
+    (used : (x y : A) → Is true x → It true y → (r q : List ℕ) → bytesOf x ++ r ≡ bytesOf y ++ q → (x ≡ y) × (r ≡ q))
+    (unused : (x y : A) → Is false x → It false y → x ≡ y)
   where
-  rows-same : (count : ℕ) (xs ys : List A) → count ≤ most → length xs ≡ most → length ys ≡ most → ((i : ℕ) → i < most → Is (ltb i count) (getD xs i off)) → ((i : ℕ) → i < most → It (ltb i count) (getD ys i off)) → (r q : List ℕ) → each count (λ i. bytesOf (getD xs i off)) ++ r ≡ each count (λ i. bytesOf (getD ys i off)) ++ q → (xs ≡ ys) × (r ≡ q)
-  rows-same count xs ys few lx ly isx isy r q w =
-      let v = each-splits count (λ (i : ℕ). bytesOf (getD xs i off)) (λ (i : ℕ). bytesOf (getD ys i off)) (λ i h a b e. let u = at-used i h a b e in (ap bytesOf (u .0), u .1)) r q w in
-      (ext-getD off xs ys (lx ∙ sym ly) (λ i h. go i (omega arith) (decLt i count) (v .0)), v .1)
-    where
-      at-used : (i : ℕ) → i < count → (a b : List ℕ) → bytesOf (getD xs i off) ++ a ≡ bytesOf (getD ys i off) ++ b → (getD xs i off ≡ getD ys i off) × (a ≡ b)
-      at-used i h a b e = used (getD xs i off) (getD ys i off)
-          (subst (λ (u : Bool). Is u (getD xs i off)) (lt-ltb i count h) (isx i (omega arith)))
-          (subst (λ (u : Bool). It u (getD ys i off)) (lt-ltb i count h) (isy i (omega arith)))
-          a b e
+    rows-same : (count : ℕ) (xs ys : List A) → count ≤ most → length xs ≡ most → length ys ≡ most → ((i : ℕ) → i < most → Is (ltb i count) (getD xs i off)) → ((i : ℕ) → i < most → It (ltb i count) (getD ys i off)) → (r q : List ℕ) → each count (λ i. bytesOf (getD xs i off)) ++ r ≡ each count (λ i. bytesOf (getD ys i off)) ++ q → (xs ≡ ys) × (r ≡ q)
+    rows-same count xs ys few lx ly isx isy r q w =
+        let v = each-splits count (λ (i : ℕ). bytesOf (getD xs i off)) (λ (i : ℕ). bytesOf (getD ys i off)) (λ i h a b e. let u = at-used i h a b e in (ap bytesOf (u .0), u .1)) r q w in
+        (ext-getD off xs ys (lx ∙ sym ly) (λ i h. go i (omega arith) (decLt i count) (v .0)), v .1)
+      where
+        at-used : (i : ℕ) → i < count → (a b : List ℕ) → bytesOf (getD xs i off) ++ a ≡ bytesOf (getD ys i off) ++ b → (getD xs i off ≡ getD ys i off) × (a ≡ b)
+        at-used i h a b e = used (getD xs i off) (getD ys i off)
+            (subst (λ (u : Bool). Is u (getD xs i off)) (lt-ltb i count h) (isx i (omega arith)))
+            (subst (λ (u : Bool). It u (getD ys i off)) (lt-ltb i count h) (isy i (omega arith)))
+            a b e
 
-      go : (i : ℕ) → i < most → Dec (i < count) → ((j : ℕ) → j < count → bytesOf (getD xs j off) ≡ bytesOf (getD ys j off)) → getD xs i off ≡ getD ys i off
-      go i h (yes l) same = at-used i l [] [] (ap (λ (x : List ℕ). x ++ []) (same i l)) .0
-      go i h (no n) same = unused (getD xs i off) (getD ys i off)
-          (subst (λ (u : Bool). Is u (getD xs i off)) (le-ltb i count (omega arith)) (isx i h))
-          (subst (λ (u : Bool). It u (getD ys i off)) (le-ltb i count (omega arith)) (isy i h))
+        go : (i : ℕ) → i < most → Dec (i < count) → ((j : ℕ) → j < count → bytesOf (getD xs j off) ≡ bytesOf (getD ys j off)) → getD xs i off ≡ getD ys i off
+        go i h (yes l) same = at-used i l [] [] (ap (λ (x : List ℕ). x ++ []) (same i l)) .0
+        go i h (no n) same = unused (getD xs i off) (getD ys i off)
+            (subst (λ (u : Bool). Is u (getD xs i off)) (le-ltb i count (omega arith)) (isx i h))
+            (subst (λ (u : Bool). It u (getD ys i off)) (le-ltb i count (omega arith)) (isy i h))
 
 module _ {n d m e : ℕ} where
   role-used : (x y : Role) → RoleIs true n d x → RoleIs true m e y → (r q : List ℕ) → roleBytes x ++ r ≡ roleBytes y ++ q → (x ≡ y) × (r ≡ q)

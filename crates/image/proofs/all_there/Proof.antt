@@ -3,14 +3,9 @@ use mathlib.Core.Path.{subst}
 use native.Mathlib.Omega.{arith}
 use Rattle.expression.specs.Bytes.{Finds}
 use Rattle.image.proofs.Bytes.{all-whole, all-short, all-fault}
-use mathlib.Core.Path.{_≡_, refl, sym, ap, subst}
-use mathlib.Core.List.{List}
-use mathlib.Core.Logic.{inl, inr}
-use Rattle.expression.specs.declared.Scanned.{Scanned}
 use borrow.Author.Needs.{needs}
 use Rattle.image.proofs.all_there.Statement.{statement}
 use Rattle.image.proofs.all_there.Tie as tie
--- `image::all_there` meets its contract: the scan of the stated bytes says it. Assumes nothing.
 
 add-end : tie.Need-add-end
 add-end c = search needs
@@ -37,23 +32,23 @@ enum-known-found : tie.Need-enum-known-found
 enum-known-found c = search needs
 
 add-t15 : tie.Need-add-t15
-add-t15 c = 
+add-t15 c =
     let a = c .before .before .before .before .before .before in
     let w = all-fault _ _ _ (a .args .m) (a .args .image .now) (a .args .at) (a .pre .1) (subst (Finds _ _ _ _) (c .before .found .given .1) (c .before .before .before .scan .ensures)) in
     omega (arith, w .0, a .pre .1, a .good)
 
 returns : tie.Need-returns
-returns c = 
+returns c =
     let a = c .before .before .before .before .before in
     all-whole _ _ _ (a .args .m) (a .args .image .now) (a .args .at) (a .pre .1) (subst (Finds _ _ _ _) (c .enum-told .given .1) (c .before .before .scan .ensures))
 
 returns-2 : tie.Need-returns-2
-returns-2 c = 
+returns-2 c =
     let a = c .before .before .before .before .before in
     all-short _ _ _ (a .args .m) (a .args .image .now) (a .args .at) (a .pre .1) (subst (Finds _ _ _ _) (c .enum-told2 .given .1) (c .before .before .scan .ensures))
 
 returns-3 : tie.Need-returns-3
-returns-3 c = 
+returns-3 c =
     let a = c .before .before .before .before .before .before in
     all-fault _ _ _ (a .args .m) (a .args .image .now) (a .args .at) (a .pre .1) (subst (Finds _ _ _ _) (c .before .found .given .1) (c .before .before .before .scan .ensures)) .1
 

@@ -29,23 +29,23 @@ enum-known-found : tie.Need-enum-known-found
 enum-known-found c = search needs
 
 add-t16 : tie.Need-add-t16
-add-t16 c = 
+add-t16 c =
     let a = c .before .before .before .before .before .before in
     let w = cut-fault _ _ _ (a .args .m) (a .args .image .now) (a .args .at) (a .pre .2) (subst (Finds _ _ _ _) (c .before .found .given .1) (c .before .before .before .scan .ensures)) in
     omega (arith, w .0, a .good)
 
 returns : tie.Need-returns
-returns c = 
+returns c =
     let a = c .before .before .before .before .before in
     cut-whole _ _ _ (a .args .m) (a .args .image .now) (a .args .at) (a .pre .2) (subst (Finds _ _ _ _) (c .enum-told .given .1) (c .before .before .scan .ensures))
 
 returns-2 : tie.Need-returns-2
-returns-2 c = 
+returns-2 c =
     let a = c .before .before .before .before .before in
     cut-short _ _ _ (a .args .m) (a .args .image .now) (a .args .at) (a .pre .2) (subst (Finds _ _ _ _) (c .enum-told2 .given .1) (c .before .before .scan .ensures))
 
 returns-3 : tie.Need-returns-3
-returns-3 c = 
+returns-3 c =
     let a = c .before .before .before .before .before .before in
     cut-fault _ _ _ (a .args .m) (a .args .image .now) (a .args .at) (a .pre .2) (subst (Finds _ _ _ _) (c .before .found .given .1) (c .before .before .before .scan .ensures)) .1
 

@@ -16,7 +16,7 @@ granted-requires : tie.Need-granted-requires
 granted-requires c κs = search needs
 
 returns : tie.Need-returns
-returns c = 
+returns c =
     let r = c .before .before .before .before .read-image in
     let a = c .before .before .before .answer-of in
     let g = c .before .before .granted .ensures .0 (c .before .if1 .taken) in
@@ -27,7 +27,7 @@ returns c =
     }
 
 returns-2 : tie.Need-returns-2
-returns-2 c = 
+returns-2 c =
     let r = c .before .before .before .read-image in
     record {
       answers = (r .result .met, r .ensures .met, c .before .before .answer-of .ensures);

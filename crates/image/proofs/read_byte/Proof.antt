@@ -35,7 +35,7 @@ no-byte-requires-3 : tie.Need-no-byte-requires-3
 no-byte-requires-3 c κs = search needs
 
 returns-3 : tie.Need-returns-3
-returns-3 c = 
+returns-3 c =
     let w = c .before .before .wide in
     byte-refused _ _ _ _ _ (c .before .before .before .before .before .before .before .before .before .pre) _ (c .before .before .before .before .before .before .from .given .1) (inr (omega arith, inr ((λ v. omega (arith, v .0, w .ensures)), refl))) (c .no-byte3 .ensures)
 
@@ -43,7 +43,7 @@ no-byte-requires-4 : tie.Need-no-byte-requires-4
 no-byte-requires-4 c κs = search needs
 
 returns-4 : tie.Need-returns-4
-returns-4 c = 
+returns-4 c =
     let w = c .before .before .before .wide in
     byte-refused _ _ _ _ _ (c .before .before .before .before .before .before .before .before .before .before .pre) _ (c .before .before .before .before .before .before .before .from .given .1) (inr (omega arith, inr ((λ v. omega (arith, v .1, w .ensures)), refl))) (c .no-byte4 .ensures)
 
@@ -51,7 +51,7 @@ add-t8 : tie.Need-add-t8
 add-t8 c = search needs
 
 returns-5 : tie.Need-returns-5
-returns-5 c = 
+returns-5 c =
     let w = c .before .before .wide in
     byte-there _ _ _ _ _ (c .before .before .before .before .before .before .before .before .before .pre) _ (c .before .before .before .before .before .before .from .given .1) (omega arith) (omega arith, omega arith) (w .ensures) refl
 

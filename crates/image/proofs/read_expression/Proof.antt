@@ -25,22 +25,22 @@ sub-if1 : tie.Need-sub-if1
 sub-if1 c = byte-ends _ _ _ _ _ _ (c .before .before .before .read-byte .ensures) (c .before .met .given .1)
 
 cut-requires : tie.Need-cut-requires
-cut-requires c κs = 
+cut-requires c κs =
     let e = byte-ends _ _ _ _ _ _ (c .before .before .before .before .read-byte .ensures) (c .before .before .met .given .1) in
     (c .before .before .before .before .before .before .pre, e, omega arith)
 
 returns-2 : tie.Need-returns-2
-returns-2 c = 
+returns-2 c =
     let e = byte-ends _ _ _ _ _ _ (c .before .before .before .before .before .read-byte .ensures) (c .before .before .before .met .given .1) in
     expression-as _ _ _ _ _ _ _ (c .before .before .before .before .before .read-byte .ensures) (follows-read (Stated _ _ _ _) _ (c .before .before .before .met .given .1) (inr (omega (arith, c .before .if1 .taken), c .cut .ensures)))
 
 all-there-requires : tie.Need-all-there-requires
-all-there-requires c κs = 
+all-there-requires c κs =
     let e = byte-ends _ _ _ _ _ _ (c .before .before .before .before .read-byte .ensures) (c .before .before .met .given .1) in
     (c .before .before .before .before .before .before .pre, omega arith)
 
 returns-3 : tie.Need-returns-3
-returns-3 c = 
+returns-3 c =
     let e = byte-ends _ _ _ _ _ _ (c .before .before .before .before .before .read-byte .ensures) (c .before .before .before .met .given .1) in
     expression-as _ _ _ _ _ _ _ (c .before .before .before .before .before .read-byte .ensures) (follows-read (Stated _ _ _ _) _ (c .before .before .before .met .given .1) (inl (omega (arith, c .before .if1 .left), c .all-there .ensures)))
 

@@ -22,7 +22,7 @@ read-version-requires : tie.Need-read-version-requires
 read-version-requires c κs = search needs
 
 returns : tie.Need-returns
-returns c = 
+returns c =
     let s = mark-as markS _ (Read 0) _ (c .before .before .before .read-byte .ensures .met) in
     let p = mark-as markP _ _ _ (c .before .before .read-byte2 .ensures .met) in
     let t = mark-as markT _ _ _ (c .before .read-byte3 .ensures .met) in

@@ -32,7 +32,7 @@ read-end-requires : tie.Need-read-end-requires
 read-end-requires c κs = search needs
 
 returns : tie.Need-returns
-returns c = 
+returns c =
     image-read _ _ (c .before .before .before .before .before .before .before .before .before .before .before .before .read-head .ensures) _ (c .before .before .before .before .before .before .before .before .before .before .before .read-byte .ensures) _ (c .before .before .before .before .before .before .before .before .before .before .read-tree .ensures) _ (c .before .before .before .before .before .before .before .before .levels .ensures .depth) _ (c .before .before .before .before .before .before .read-byte2 .ensures) _ (c .before .before .before .before .before .read-roles .ensures) _ (c .before .before .before .read-byte3 .ensures) _ (c .before .before .read-files .ensures) _ (c .read-end .ensures)
 
 pub read-image-spec : {M : Type 1} → statement M

@@ -30,22 +30,22 @@ enum-told-2 : tie.Need-enum-told-2
 enum-told-2 c = search needs
 
 returns-2 : tie.Need-returns-2
-returns-2 c = 
+returns-2 c =
     let a = c .before .before .before .before .before .before .before .before .before .before in
     absurd (part-never (a .args .image .now) _ (a .args .file) (a .args .n) (a .args .depth .0) (a .args .k) (a .args .lens .now) (a .args .bytes .now) _ (kind-as _ _ _ _ _ (c .before .before .before .before .before .before .kind-at .ensures) (c .before .before .before .before .before .read-expression .ensures)) (c .enum-told2 .given .1) (c .before .before .before .met .given .1))
 
 add-start : tie.Need-add-start
-add-start c = 
+add-start c =
     let f = expression-found _ _ _ _ _ _ (c .before .before .before .before .before .before .read-expression .ensures) (c .before .from .given .1) (c .before .before .before .before .met .given .1) in
     omega (arith, f .start, f .within, c .before .before .before .before .before .before .before .before .before .before .before .good)
 
 sub-lens : tie.Need-sub-lens
-sub-lens c = 
+sub-lens c =
     let f = expression-found _ _ _ _ _ _ (c .before .before .before .before .before .before .read-expression .ensures) (c .before .from .given .1) (c .before .before .before .before .met .given .1) in
     f .start
 
 cast-lens : tie.Need-cast-lens
-cast-lens c = 
+cast-lens c =
     let f = expression-found _ _ _ _ _ _ (c .before .before .before .before .before .before .read-expression .ensures) (c .before .from .given .1) (c .before .before .before .before .met .given .1) in
     omega (arith, f .in-order .0, f .long)
 
@@ -53,22 +53,22 @@ slice-write-lens : tie.Need-slice-write-lens
 slice-write-lens c = search needs
 
 sub-put-bytes : tie.Need-sub-put-bytes
-sub-put-bytes c = 
+sub-put-bytes c =
     let f = expression-found _ _ _ _ _ _ (c .before .before .before .before .before .before .before .read-expression .ensures) (c .before .before .from .given .1) (c .before .before .before .before .before .met .given .1) in
     f .start
 
 part-put-bytes-start : tie.Need-part-put-bytes-start
-part-put-bytes-start c = 
+part-put-bytes-start c =
     let f = expression-found _ _ _ _ _ _ (c .before .before .before .before .before .before .before .read-expression .ensures) (c .before .before .from .given .1) (c .before .before .before .before .before .met .given .1) in
     omega (arith, f .start, f .within)
 
 part-put-bytes-end : tie.Need-part-put-bytes-end
-part-put-bytes-end c = 
+part-put-bytes-end c =
     let f = expression-found _ _ _ _ _ _ (c .before .before .before .before .before .before .before .read-expression .ensures) (c .before .before .from .given .1) (c .before .before .before .before .before .met .given .1) in
     omega (arith, f .start, f .within)
 
 put-bytes-requires : tie.Need-put-bytes-requires
-put-bytes-requires c κs = 
+put-bytes-requires c κs =
     let f = expression-found _ _ _ _ _ _ (c .before .before .before .before .before .before .before .before .read-expression .ensures) (c .before .before .before .from .given .1) (c .before .before .before .before .before .before .met .given .1) in
     (f .in-order .0, c .before .before .before .before .before .before .before .before .before .before .before .before .before .pre .2)
 

@@ -1,15 +1,12 @@
 -- `image::read_shelf` meets its contract: the places passed are read, and the shelf is fine throughout. The measure is what is left of the places. Assumes nothing.
 use mathlib.Core.Path.{_≡_, refl, sym, _∙_}
-use Prim.Native.Nat.{ℕ, _≤_, _<_, _-_}
+use Prim.Native.Nat.{_≤_, _-_}
 use native.Mathlib.Omega.{arith}
-use borrow.Author.Needs.{needs}
 use lib.ListN.{length}
 use Rattle.image.specs.Reading.{ShelfRead}
 use Rattle.image.proofs.Shelf.{shelf-none, shelf-more, shelf-all}
-use mathlib.Core.Path.{_≡_, refl, subst}
 use Rattle.image.proofs.read_shelf.Statement.{statement}
 use Rattle.image.proofs.read_shelf.Tie as tie
--- `image::read_shelf` meets its contract: the places passed are read, and the shelf is fine throughout. The measure is what is left of the places. Assumes nothing.
 
 abbrev Inv-loop : tie.InvT-loop
 Inv-loop image file n depth lens₀ bytes₀ met₀ k₀ k-end lens bytes met k =
@@ -22,7 +19,7 @@ loop-holds : tie.Need-loop-holds Inv-loop μ-loop
 loop-holds c = (omega arith, refl, shelf-none _ _ _ _ _ _ _ _ (record { lengths = refl; room = c .before .before .before .pre .1 }) (c .before .before .before .pre .2))
 
 read-part-requires : tie.Need-read-part-requires Inv-loop μ-loop
-read-part-requires c κs = 
+read-part-requires c κs =
     let w = c .before .before .before .loop .inv in
     (c .before .before .before .before .before .before .before .pre .0, omega (arith, w .1, w .2 .room .lengths), omega (arith, w .1, w .2 .room .room))
 
@@ -33,7 +30,7 @@ loop-less : tie.Need-loop-less Inv-loop μ-loop
 loop-less c = omega arith
 
 loop-again : tie.Need-loop-again Inv-loop μ-loop
-loop-again c = 
+loop-again c =
     let w = c .before .before .before .before .before .before .before .before .loop .inv in
     (omega (arith, w .1), refl, shelf-more (w .2) (omega (arith, w .1)) _ (c .before .before .before .before .read-part .ensures))
 

@@ -1,7 +1,7 @@
 -- `image::read_tree` meets its contract: the parents of the securons passed are read, and the others are zero. The measure is what is left of them. Assumes nothing.
-use Prim.Native.Nat.{ℕ, _<_, _≤_, _-_}
+use Prim.Native.Nat.{_<_, _≤_, _-_}
 use native.Mathlib.Omega.{arith}
-use borrow.Author.Needs.{needs, zero≤}
+use borrow.Author.Needs.{zero≤}
 use Rattle.image.proofs.Parents.{Grows, grows-none, grows-more, grows-all, grows-tree}
 use Rattle.image.proofs.read_tree.Statement.{statement}
 use Rattle.image.proofs.read_tree.Tie as tie
@@ -34,12 +34,12 @@ loop-less : tie.Need-loop-less Inv-loop μ-loop
 loop-less c = omega arith
 
 loop-again : tie.Need-loop-again Inv-loop μ-loop
-loop-again c = 
+loop-again c =
     let w = c .before .before .before .loop .inv in
     (omega arith, omega arith, grows-more (w .2) (w .0) (omega (arith, c .before .before .before .before .before .pre)) _ (c .before .read-byte .ensures))
 
 returns : tie.Need-returns Inv-loop μ-loop
-returns c = 
+returns c =
     let w = c .before .loop .inv in
     grows-tree (grows-all (w .2) (omega (arith, w .1))) (c .before .before .before .pre)
 
