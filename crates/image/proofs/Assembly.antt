@@ -2,14 +2,13 @@
 use mathlib.Core.Path.{_≡_, refl, sym, ap, _∙_, subst}
 use mathlib.Core.List.{List, [], _∷_, _++_, append-nil}
 use mathlib.Core.Logic.{inl, inr}
-use Prim.Native.Nat.{ℕ, _+_, _*_, _<_, _≤_}
+use Prim.Native.Nat.{ℕ, _+_, _≤_}
 use native.Mathlib.Omega.{arith}
-use lib.ListN.{length, drop, getD, replicate, length-replicate, getD-replicate, drop-of-length-le}
+use lib.ListN.{length, getD, replicate, length-replicate, getD-replicate, drop-of-length-le}
 use Rattle.answer.specs.Numbers.{markWrong, countWrong}
 use Rattle.securon.specs.Sets.{securons}
 use Rattle.tree.specs.declared.Tree.{Tree}
 use Rattle.tree.specs.Tree.{IsDepth}
-use Rattle.policy.specs.declared.Hold.the-variants.{Free}
 use Rattle.policy.specs.declared.Slot.{Slot}
 use Rattle.policy.specs.declared.State.{State}
 use Rattle.policy.specs.State.{mostRoles, mostFiles, slotCount, freeSlot, roleAt, fileAt}
@@ -22,8 +21,7 @@ use Rattle.image.specs.declared.ByteMet.{ByteMet}
 use Rattle.image.specs.declared.TreeMet.{TreeMet}
 use Rattle.image.specs.declared.RolesMet.{RolesMet}
 use Rattle.image.specs.declared.FilesMet.{FilesMet}
-use Rattle.image.specs.declared.ImageMet.{ImageMet}
-use Rattle.image.specs.Image.{each, markS, markP, markT, version1, parentBytes, roleBytes, fileBytes, imageOf, IsImage}
+use Rattle.image.specs.Image.{each, markS, markP, markT, version1, parentBytes, roleBytes, fileBytes, imageOf}
 use Rattle.image.specs.Faults.{Byte, Within, Version, End, end, Meets, counted, headFields, parentFields, roleFields, fileFields, treeAt, Files, Shelves, Over, Grown, Whole, _then_}
 use Rattle.image.specs.Reading.{Follows, Stands, ByteRead, TreeRead, RolesRead, FilesRead, ImageRead}
 use Rattle.image.specs.Order.{not-both, same-end, byte-read, follows-read, follows-from, follows-start, follows-then, follows-map, follows-led, follows-one}

@@ -10,13 +10,11 @@ use lib.ListN.{length, take, drop, getD, set, replicate, length-set, length-drop
 use lib.Seq.{getD-set-same, getD-set-other, length-take-le, getD-take, getD-drop, getD-append-add, take-at, ext-getD}
 use Rattle.answer.specs.Numbers.{parentWrong}
 use Rattle.securon.specs.Sets.{securons}
-use Rattle.tree.specs.declared.Tree.{Tree}
 use Rattle.tree.specs.Tree.{SmallerBelow, InRange}
 use Rattle.policy.specs.Fresh.{zero-shelf}
 use Rattle.image.specs.declared.Met.{Met}
 use Rattle.image.specs.declared.Met.the-variants.{Read}
 use Rattle.image.specs.declared.ByteMet.{ByteMet}
-use Rattle.image.specs.declared.TreeMet.{TreeMet}
 use Rattle.image.specs.Image.{each, parentBytes}
 use Rattle.image.specs.Faults.{Byte, Within, Meets, Field, parent, parentFields, treeAt}
 use Rattle.image.specs.Reading.{Follows, Stands, ByteRead, TreeRead}

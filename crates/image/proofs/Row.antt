@@ -1,26 +1,30 @@
 -- The reading of roles, and of files, one after another. Assumes nothing.
 use mathlib.Core.Path.{_≡_, refl, sym, ap, _∙_, subst}
 use mathlib.Core.Bool.{Bool, true, false, true≢false}
-use mathlib.Core.List.{List, [], _∷_, _++_}
-use Prim.Native.Nat.{ℕ, _+_, _*_, _<_, _≤_}
+use mathlib.Core.List.{List, _++_}
+use Prim.Native.Nat.{ℕ, _+_, _*_, _<_}
 use native.Mathlib.Decide.{decLt, ℕ-discrete}
 use native.Mathlib.Omega.{arith}
 use borrow.Author.Tests.{lt-ltb, le-ltb}
 use lib.Dec.{ltb}
-use lib.ListN.{length, getD, set, replicate, length-set, length-replicate, getD-replicate}
+use lib.ListN.{getD, set, replicate, length-set, length-replicate, getD-replicate}
 use lib.Seq.{getD-set-same, getD-set-other}
 use Rattle.policy.specs.State.{rolePlaces, filePlaces, noRole, noFile}
+<<<<<<< HEAD
 use Rattle.policy.specs.WellFormed.{HasPlaces}
 use Rattle.policy.specs.Fine.{ShelfFine, OneIs, roleShelves, fileShelves}
+=======
+use Rattle.policy.specs.Fine.{ShelfFine, OneIs, roleShelves, fileShelves}
+>>>>>>> image
 use Rattle.policy.specs.Fresh.{zero-places, zero-shelf}
 use Rattle.image.specs.declared.Met.{Met}
 use Rattle.image.specs.declared.Met.the-variants.{Read, Refused}
 use Rattle.image.specs.declared.RoleMet.{RoleMet}
 use Rattle.image.specs.declared.FileMet.{FileMet}
-use Rattle.image.specs.Image.{each, roleBytes, fileBytes}
-use Rattle.image.specs.Faults.{Meets, Field, roleFields, fileFields}
-use Rattle.image.specs.Reading.{Follows, Stands, Between, ShelfRead, RoleRead, FileRead, Rows, shelfFields, shelfBytes}
-use Rattle.image.specs.Order.{not-both, same-end, follows-from, follows-more, follows-none}
+use Rattle.image.specs.Image.{each}
+use Rattle.image.specs.Faults.{Meets, Field}
+use Rattle.image.specs.Reading.{Follows, Stands, Between, ShelfRead, RoleRead, FileRead, Rows}
+use Rattle.image.specs.Order.{not-both, follows-from, follows-more, follows-none}
 use Rattle.image.specs.Standing.{each-more, each-same, stands-more, between-none}
 use Rattle.image.specs.Places.{role-fields, file-fields, role-bytes, file-bytes, zero-fine}
 

@@ -3,7 +3,7 @@ use mathlib.Core.Path.{_≡_, refl, sym, ap, _∙_, subst}
 use mathlib.Core.Bool.{Bool}
 use mathlib.Core.List.{List, [], _∷_, _++_}
 use mathlib.Core.Logic.{inl, inr}
-use Prim.Native.Nat.{ℕ, _+_, _*_, _-_, _<_, _≤_}
+use Prim.Native.Nat.{ℕ, _+_, _-_, _<_, _≤_}
 use native.Mathlib.Omega.{arith}
 use lib.ListN.{length, take, drop, getD, set, length-drop}
 use lib.Seq.{length-take-le}
@@ -16,8 +16,8 @@ use Rattle.policy.specs.Kept.{put-places, put-fine}
 use Rattle.policy.specs.Reads.{put-here, put-there}
 use Rattle.image.specs.declared.Met.{Met}
 use Rattle.image.specs.declared.Met.the-variants.{Read, Refused}
-use Rattle.image.specs.Image.{each, expressionBytes}
-use Rattle.image.specs.Faults.{Byte, Stated, Expression, Meets, Field, expression}
+use Rattle.image.specs.Image.{expressionBytes}
+use Rattle.image.specs.Faults.{Expression, Meets, Field, expression}
 use Rattle.image.specs.Reading.{Follows, Stands, PartRead, ShelfRead, shelfFields, shelfBytes}
 use Rattle.image.specs.Order.{not-both, same-end, no-refusal, byte-read, follows-from, follows-one, follows-more, follows-none}
 use Rattle.image.specs.Standing.{each-more, each-same, stands-more, stands-byte, stands-bytes, between-none}

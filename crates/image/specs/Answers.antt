@@ -3,7 +3,7 @@ use mathlib.Core.Path.{_≡_, refl, sym, ap₂, _∙_}
 use mathlib.Core.List.{List}
 use Prim.Native.Nat.{ℕ}
 use Rattle.answer.specs.declared.Answer.{Answer}
-use Rattle.answer.specs.Answers.{Granted, Is}
+use Rattle.answer.specs.Answers.{Granted}
 use Rattle.image.specs.declared.Met.{Met}
 use Rattle.image.specs.declared.Met.the-variants.{Read, Refused}
 use Rattle.image.specs.Faults.{Whole}

@@ -21,7 +21,7 @@ use Rattle.image.specs.Image.{IsImage}
 use Rattle.image.specs.Faults.{Whole}
 use Rattle.image.specs.Load.{Gives, Loads}
 use Rattle.image.specs.Settled.{settles-whole}
-use Rattle.image.specs.Answers.{granted-read, gives-one}
+use Rattle.image.specs.Answers.{gives-one}
 use Rattle.image.specs.OnePolicy.{one-policy}
 use Rattle.image.specs.Whole.{image-read, image-cut}
 use lib.ListN.{length, getD-replicate}

@@ -10,18 +10,22 @@ use borrow.Author.Tests.{lt-ltb, le-ltb}
 use lib.Dec.{ltb}
 use lib.ListN.{length, take, drop, getD, length-drop}
 use lib.Seq.{take-append-seam, drop-append-seam, take-at, drop-at, length-take-le, getD-take, getD-drop, ext-getD}
-use Rattle.securon.specs.Sets.{securons}
 use Rattle.tree.specs.declared.Tree.{Tree}
 use Rattle.expression.specs.Bytes.{longest}
 use Rattle.policy.specs.declared.Role.{Role}
 use Rattle.policy.specs.declared.File.{File}
 use Rattle.policy.specs.declared.Hold.{Hold}
-use Rattle.policy.specs.declared.Hold.the-variants.{Free}
 use Rattle.policy.specs.declared.Slot.{Slot}
 use Rattle.policy.specs.declared.State.{State}
+<<<<<<< HEAD
 use Rattle.policy.specs.State.{mostRoles, mostFiles, slotCount, rolePlaces, filePlaces, offRole, offFile, freeSlot, storedAt, roleAt, fileAt, holdOf}
 use Rattle.policy.specs.WellFormed.{HasPlaces, AllZero, ZeroShelf, WellFormed}
 use Rattle.policy.specs.Fine.{PlaceFine, ShelfFine, TreeFine, StateFine, OneIs, roleShelves, fileShelves}
+=======
+use Rattle.policy.specs.State.{mostRoles, mostFiles, slotCount, offRole, offFile, freeSlot, storedAt, roleAt, fileAt}
+use Rattle.policy.specs.WellFormed.{HasPlaces, AllZero, ZeroShelf}
+use Rattle.policy.specs.Fine.{ShelfFine, TreeFine, OneIs, roleShelves, fileShelves}
+>>>>>>> image
 use Rattle.policy.specs.Whole.{well-formed-fine}
 use Rattle.image.specs.Image.{each, parentBytes, expressionBytes, roleBytes, fileBytes, imageOf, IsImage}
 use Rattle.image.specs.Reading.{shelfBytes}

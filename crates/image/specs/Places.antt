@@ -1,13 +1,13 @@
 -- The bytes and the fields of a role and of a file by the number of their place; a shelf of zeros. Assumes nothing.
-use mathlib.Core.Path.{_≡_, refl, sym, ap, _∙_, subst}
+use mathlib.Core.Path.{_≡_, refl, sym, _∙_, subst}
 use mathlib.Core.Bool.{Bool, true, false}
-use mathlib.Core.List.{List, [], _∷_, _++_, append-assoc}
+use mathlib.Core.List.{List, _++_, append-assoc}
 use mathlib.Core.Logic.{inl}
-use Prim.Native.Nat.{ℕ, _+_, _*_, _-_, _<_, _≤_}
+use Prim.Native.Nat.{ℕ, _+_, _*_, _-_, _<_}
 use native.Mathlib.Decide.{decLt}
 use native.Mathlib.Omega.{arith}
 use borrow.Author.Needs.{zero≤}
-use lib.ListN.{length, take, drop, getD, length-take}
+use lib.ListN.{take, drop, getD, length-take}
 use lib.Seq.{getD-take, getD-drop}
 use Rattle.expression.specs.Bytes.{longest, InOrder}
 use Rattle.policy.specs.declared.Role.{Role}

@@ -1,12 +1,11 @@
 -- What each function that reads a stretch of the image tells. A device of the proofs.
 use mathlib.Core.Path.{_≡_}
-use mathlib.Core.Bool.{Bool, true, false}
+use mathlib.Core.Bool.{Bool, true}
 use mathlib.Core.List.{List, [], _∷_, _++_}
-use Prim.Native.Nat.{ℕ, _+_, _*_, _-_, _<_, _≤_}
+use Prim.Native.Nat.{ℕ, _<_}
 use lib.Dec.{ltb}
-use lib.ListN.{length, take, drop, getD, set}
-use Rattle.tree.specs.declared.Tree.{Tree}
-use Rattle.expression.specs.Bytes.{longest, InOrder}
+use lib.ListN.{length, drop, getD, set}
+use Rattle.expression.specs.Bytes.{InOrder}
 use Rattle.policy.specs.State.{mostRoles, mostFiles, storedAt, offRole, offFile, putBytes}
 use Rattle.policy.specs.WellFormed.{HasPlaces}
 use Rattle.policy.specs.Fine.{kindAt, ShelfFine, TreeFine, OneIs, roleShelves, fileShelves}

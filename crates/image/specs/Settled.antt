@@ -1,7 +1,7 @@
 -- Every stretch of an image has one outcome from a place on, and no refusal has number 0. Assumes nothing.
 use mathlib.Core.Path.{_≡_, refl, sym, ap, _∙_, subst}
 use mathlib.Core.List.{List, [], _∷_, _++_, append-assoc}
-use mathlib.Core.Logic.{_⊎_, inl, inr}
+use mathlib.Core.Logic.{inl, inr}
 use Prim.Native.Nat.{ℕ, _+_, _<_, _≤_}
 use native.Mathlib.Omega.{arith}
 use lib.ListN.{length, take, drop, getD, take-append-drop}
@@ -17,7 +17,7 @@ use Rattle.policy.specs.Parts.{one-depth}
 use Rattle.image.specs.declared.Met.{Met}
 use Rattle.image.specs.declared.Met.the-variants.{Read, Refused}
 use Rattle.image.specs.Image.{each}
-use Rattle.image.specs.Faults.{Stretch, IsRefusal, _then_, Judged, Byte, led, Version, present, Stated, Expression, End, Field, mark, version, parent, expression, end, Faces, Meets, Within, counted, headFields, parentFields, roleFields, fileFields, treeAt, Files, Shelves, Over, Grown, Whole}
+use Rattle.image.specs.Faults.{Stretch, _then_, Judged, Byte, led, Version, present, Stated, End, Field, mark, version, parent, expression, end, Faces, Meets, Within, counted, headFields, parentFields, roleFields, fileFields, treeAt, Files, Shelves, Over, Grown, Whole}
 use Rattle.image.specs.Order.{not-both, same-end, no-refusal}
 
 -- from a place on

@@ -1,15 +1,14 @@
 -- The laws of bytes that stand one after another. Assumes nothing.
-use mathlib.Core.Path.{_≡_, refl, sym, ap, ap₂, _∙_, subst}
+use mathlib.Core.Path.{_≡_, refl, sym, ap, ap₂, _∙_}
 use mathlib.Core.List.{List, [], _∷_, _++_, append-assoc}
-use Prim.Native.Nat.{ℕ, zero, suc, _+_, _-_, _<_, _≤_}
+use Prim.Native.Nat.{ℕ, zero, suc, _+_, _<_}
 use native.Mathlib.Nat.{le-refl}
 use native.Mathlib.Numerals.{add-one}
 use native.Mathlib.Omega.{arith}
-use lib.ListN.{length, take, drop, getD, take-append-drop, length-drop}
-use lib.Seq.{drop-cons, drop-drop, length-take-le}
+use lib.ListN.{length, take, drop, getD, take-append-drop}
+use lib.Seq.{drop-cons, drop-drop}
 use Rattle.image.specs.declared.Met.{Met}
-use Rattle.image.specs.declared.Met.the-variants.{Read}
-use Rattle.image.specs.Image.{each, expressionBytes}
+use Rattle.image.specs.Image.{each}
 use Rattle.image.specs.Reading.{Stands, Between}
 use Rattle.image.specs.Order.{same-end}
 

@@ -1,27 +1,22 @@
 -- What the image of a policy comes to: it is read, and cut anywhere it ends early. Assumes nothing.
 use mathlib.Core.Path.{_≡_, refl, sym, ap, _∙_, subst}
-use mathlib.Core.Bool.{Bool, true, false}
-use mathlib.Core.List.{List, [], _∷_, _++_, append-assoc, append-nil}
+use mathlib.Core.Bool.{Bool}
+use mathlib.Core.List.{List, [], _∷_, _++_, append-assoc}
 use mathlib.Core.Logic.{_⊎_, inl, inr, ⊎-elim}
-use Prim.Native.Nat.{ℕ, zero, suc, _+_, _*_, _-_, _<_, _≤_}
+use Prim.Native.Nat.{ℕ, zero, suc, _+_, _<_, _≤_}
 use native.Mathlib.Nat.{le-refl}
-use native.Mathlib.Numerals.{add-one}
 use native.Mathlib.Omega.{arith}
-use borrow.Author.Tests.{lt-ltb}
-use lib.ListN.{length, take, drop, getD, length-append, length-drop}
-use lib.Seq.{take-all, take-suc, take-append-seam, drop-append-seam, getD-append-seam, getD-append-add, getD-drop, length-take-le}
-use Rattle.answer.specs.Numbers.{markWrong, endsEarly, countWrong, parentWrong, expressionWrong}
-use Rattle.securon.specs.Sets.{securons}
-use Rattle.tree.specs.declared.Tree.{Tree}
-use Rattle.tree.specs.Tree.{IsDepth}
+use lib.ListN.{length, take, getD, length-append}
+use lib.Seq.{take-all, take-append-seam, drop-append-seam, getD-append-seam, getD-append-add}
+use Rattle.answer.specs.Numbers.{markWrong, endsEarly, expressionWrong}
 use Rattle.expression.specs.declared.Kind.{Kind}
 use Rattle.expression.specs.Bytes.{longest, Right, InOrder}
 use Rattle.policy.specs.State.{storedAt}
-use Rattle.policy.specs.Fine.{kindAt, ShelfFine, TreeFine}
+use Rattle.policy.specs.Fine.{kindAt, ShelfFine}
 use Rattle.image.specs.declared.Met.{Met}
 use Rattle.image.specs.declared.Met.the-variants.{Read, Refused}
 use Rattle.image.specs.Image.{each, version1, expressionBytes}
-use Rattle.image.specs.Faults.{Stretch, IsRefusal, _then_, Byte, led, Version, present, Stated, Expression, End, Field, mark, version, parent, expression, end, Faces, Meets}
+use Rattle.image.specs.Faults.{Stretch, _then_, Byte, led, Version, present, Stated, Expression, End, Field, mark, version, expression, end, Faces, Meets}
 use Rattle.image.specs.Reading.{shelfFields, shelfBytes}
 use Rattle.image.specs.Order.{meets-append, meets-one}
 

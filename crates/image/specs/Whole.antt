@@ -5,7 +5,6 @@ use mathlib.Core.List.{List, [], _∷_, _++_, append-nil}
 use Prim.Native.Nat.{ℕ, zero, suc, _+_, _*_, _-_, _<_, _≤_}
 use native.Mathlib.Decide.{decLt}
 use native.Mathlib.Nat.{le-refl}
-use native.Mathlib.Numerals.{add-one}
 use native.Mathlib.Omega.{arith}
 use borrow.Author.Needs.{zero≤}
 use borrow.Author.Tests.{lt-ltb}
@@ -14,7 +13,6 @@ use lib.Seq.{take-suc, take-at, drop-append-seam, getD-take, getD-drop, getD-app
 use Rattle.answer.specs.Numbers.{endsEarly, countWrong, parentWrong}
 use Rattle.securon.specs.Sets.{securons}
 use Rattle.tree.specs.declared.Tree.{Tree}
-use Rattle.tree.specs.Tree.{IsDepth}
 use Rattle.expression.specs.Bytes.{longest}
 use Rattle.policy.specs.declared.Role.{Role}
 use Rattle.policy.specs.declared.File.{File}
@@ -23,11 +21,15 @@ use Rattle.policy.specs.State.{mostRoles, mostFiles, rolePlaces, filePlaces, st
 use Rattle.policy.specs.WellFormed.{WellFormed}
 use Rattle.policy.specs.Fine.{ShelfFine, TreeFine, StateFine, OneIs, roleShelves, fileShelves}
 use Rattle.policy.specs.Fresh.{zero-shelf}
+<<<<<<< HEAD
 use Rattle.policy.specs.Whole.{well-formed-fine}
 use Rattle.image.specs.declared.Met.{Met}
+=======
+use Rattle.policy.specs.Whole.{used-fine, well-formed-fine}
+>>>>>>> image
 use Rattle.image.specs.declared.Met.the-variants.{Read, Refused}
 use Rattle.image.specs.Image.{each, markS, markP, markT, version1, parentBytes, expressionBytes, roleBytes, fileBytes, imageOf, IsImage, longestImage}
-use Rattle.image.specs.Faults.{Stretch, _then_, Field, mark, version, parent, end, Meets, Within, counted, headFields, parentFields, roleFields, fileFields, treeAt, Files, Shelves, Over, Grown, Whole}
+use Rattle.image.specs.Faults.{_then_, Field, mark, version, parent, end, Meets, Within, counted, headFields, parentFields, roleFields, fileFields, treeAt, Files, Shelves, Over, Grown, Whole}
 use Rattle.image.specs.Reading.{shelfFields, shelfBytes}
 use Rattle.image.specs.Places.{role-fields, file-fields, role-bytes, file-bytes}
 use Rattle.image.specs.OnePolicy.{parents-length}

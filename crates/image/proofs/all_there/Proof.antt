@@ -3,15 +3,14 @@ use mathlib.Core.Path.{subst}
 use native.Mathlib.Omega.{arith}
 use Rattle.expression.specs.Bytes.{Finds}
 use Rattle.image.proofs.Bytes.{all-whole, all-short, all-fault}
-use mathlib.Core.Path.{_≡_, refl, sym, ap, subst}
-use mathlib.Core.List.{List}
-use mathlib.Core.Logic.{inl, inr}
-use Rattle.expression.specs.declared.Scanned.{Scanned}
 use borrow.Author.Needs.{needs}
 use Rattle.image.proofs.all_there.Statement.{statement}
 use Rattle.image.proofs.all_there.Tie as tie
+<<<<<<< HEAD
 
 -- `image::all_there` meets its contract: the scan of the stated bytes says it. Assumes nothing.
+=======
+>>>>>>> image
 
 add-end : tie.Need-add-end
 add-end c = search needs

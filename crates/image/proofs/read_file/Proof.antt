@@ -1,6 +1,6 @@
 -- `image::read_file` meets its contract: a shelf of zeros is read into. Assumes nothing.
 use mathlib.Core.Path.{refl}
-use mathlib.Core.Bool.{true, false}
+use mathlib.Core.Bool.{true}
 use Rattle.policy.specs.State.{filePlaces}
 use Rattle.image.proofs.Row.{file-read, fine-none}
 use borrow.Author.Needs.{needs}

@@ -1,5 +1,5 @@
 -- `image::read_files` meets its contract: the files passed are read, and the others are zero. The measure is what is left of them. Assumes nothing.
-use Prim.Native.Nat.{ℕ, _≤_, _-_}
+use Prim.Native.Nat.{_≤_, _-_}
 use native.Mathlib.Omega.{arith}
 use borrow.Author.Needs.{needs}
 use Rattle.policy.specs.State.{mostFiles, offFile, noFile}

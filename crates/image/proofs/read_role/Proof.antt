@@ -1,6 +1,6 @@
 -- `image::read_role` meets its contract: a shelf of zeros is read into. Assumes nothing.
 use mathlib.Core.Path.{refl}
-use mathlib.Core.Bool.{true, false}
+use mathlib.Core.Bool.{false}
 use Rattle.policy.specs.State.{rolePlaces}
 use Rattle.image.proofs.Row.{role-read, fine-none}
 use borrow.Author.Needs.{needs}

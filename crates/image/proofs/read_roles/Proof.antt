@@ -1,5 +1,5 @@
 -- `image::read_roles` meets its contract: the roles passed are read, and the others are zero. The measure is what is left of them. Assumes nothing.
-use Prim.Native.Nat.{ℕ, _≤_, _-_}
+use Prim.Native.Nat.{_≤_, _-_}
 use native.Mathlib.Omega.{arith}
 use borrow.Author.Needs.{needs}
 use Rattle.policy.specs.State.{mostRoles, offRole, noRole}

@@ -1,16 +1,17 @@
 -- `image::read_shelf` meets its contract: the places passed are read, and the shelf is fine throughout. The measure is what is left of the places. Assumes nothing.
 use mathlib.Core.Path.{_≡_, refl, sym, _∙_}
-use Prim.Native.Nat.{ℕ, _≤_, _<_, _-_}
+use Prim.Native.Nat.{_≤_, _-_}
 use native.Mathlib.Omega.{arith}
-use borrow.Author.Needs.{needs}
 use lib.ListN.{length}
 use Rattle.image.specs.Reading.{ShelfRead}
 use Rattle.image.proofs.Shelf.{shelf-none, shelf-more, shelf-all}
-use mathlib.Core.Path.{_≡_, refl, subst}
 use Rattle.image.proofs.read_shelf.Statement.{statement}
 use Rattle.image.proofs.read_shelf.Tie as tie
+<<<<<<< HEAD
 
 -- `image::read_shelf` meets its contract: the places passed are read, and the shelf is fine throughout. The measure is what is left of the places. Assumes nothing.
+=======
+>>>>>>> image
 
 abbrev Inv-loop : tie.InvT-loop
 Inv-loop image file n depth lens₀ bytes₀ met₀ k₀ k-end lens bytes met k =

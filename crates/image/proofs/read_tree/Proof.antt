@@ -1,7 +1,7 @@
 -- `image::read_tree` meets its contract: the parents of the securons passed are read, and the others are zero. The measure is what is left of them. Assumes nothing.
-use Prim.Native.Nat.{ℕ, _<_, _≤_, _-_}
+use Prim.Native.Nat.{_<_, _≤_, _-_}
 use native.Mathlib.Omega.{arith}
-use borrow.Author.Needs.{needs, zero≤}
+use borrow.Author.Needs.{zero≤}
 use Rattle.image.proofs.Parents.{Grows, grows-none, grows-more, grows-all, grows-tree}
 use Rattle.image.proofs.read_tree.Statement.{statement}
 use Rattle.image.proofs.read_tree.Tie as tie
