@@ -286,8 +286,9 @@ fn permitted(s: State, slot: u8, file: u8, mode: u8, row: usize) -> Seat
     }
     let role = seat.role;
     let levels = seat.levels;
+    let nfiles = s.nfiles;
     let at = file as usize;
-    if s.nfiles <= at {
+    if nfiles <= at {
         return seat_of(answer::NO_FILE, role, levels);
     }
     if policy::MODES <= mode as usize {

@@ -17,15 +17,9 @@ use Rattle.policy.specs.declared.File.{File}
 use Rattle.policy.specs.declared.Hold.{Hold}
 use Rattle.policy.specs.declared.Slot.{Slot}
 use Rattle.policy.specs.declared.State.{State}
-<<<<<<< HEAD
-use Rattle.policy.specs.State.{mostRoles, mostFiles, slotCount, rolePlaces, filePlaces, offRole, offFile, freeSlot, storedAt, roleAt, fileAt, holdOf}
-use Rattle.policy.specs.WellFormed.{HasPlaces, AllZero, ZeroShelf, WellFormed}
-use Rattle.policy.specs.Fine.{PlaceFine, ShelfFine, TreeFine, StateFine, OneIs, roleShelves, fileShelves}
-=======
 use Rattle.policy.specs.State.{mostRoles, mostFiles, slotCount, offRole, offFile, freeSlot, storedAt, roleAt, fileAt}
 use Rattle.policy.specs.WellFormed.{HasPlaces, AllZero, ZeroShelf}
 use Rattle.policy.specs.Fine.{ShelfFine, TreeFine, OneIs, roleShelves, fileShelves}
->>>>>>> image
 use Rattle.policy.specs.Whole.{well-formed-fine}
 use Rattle.image.specs.Image.{each, parentBytes, expressionBytes, roleBytes, fileBytes, imageOf, IsImage}
 use Rattle.image.specs.Reading.{shelfBytes}

@@ -21,12 +21,7 @@ use Rattle.policy.specs.State.{mostRoles, mostFiles, rolePlaces, filePlaces, st
 use Rattle.policy.specs.WellFormed.{WellFormed}
 use Rattle.policy.specs.Fine.{ShelfFine, TreeFine, StateFine, OneIs, roleShelves, fileShelves}
 use Rattle.policy.specs.Fresh.{zero-shelf}
-<<<<<<< HEAD
 use Rattle.policy.specs.Whole.{well-formed-fine}
-use Rattle.image.specs.declared.Met.{Met}
-=======
-use Rattle.policy.specs.Whole.{used-fine, well-formed-fine}
->>>>>>> image
 use Rattle.image.specs.declared.Met.the-variants.{Read, Refused}
 use Rattle.image.specs.Image.{each, markS, markP, markT, version1, parentBytes, expressionBytes, roleBytes, fileBytes, imageOf, IsImage, longestImage}
 use Rattle.image.specs.Faults.{_then_, Field, mark, version, parent, end, Meets, Within, counted, headFields, parentFields, roleFields, fileFields, treeAt, Files, Shelves, Over, Grown, Whole}

@@ -26,7 +26,9 @@ with-pair-requires : tie.Need-with-pair-requires
 with-pair-requires c κs =
     let a = c .before .before .before .before .before .before .args in
     let all = granted-all (λ k. k ≡ 0) (c .before .before .before .bypassable .result) (bypassConditions (a .s) (a .slot) (a .file) (a .mode) (a .e .now) (a .g .now)) refl (c .before .before .before .bypassable .ensures) (c .before .before .granted .ensures .0 (c .before .if1 .taken)) in
-    (omega (arith, all .1 .1 .1 .0, all .0 .file-count), omega (arith, c .file-place .ensures, all .1 .1 .1 .1 .0), all .1 .1 .1 .1 .1 .1 .0 .2 .0, all .1 .1 .1 .1 .1 .1 .1 .0 .2 .0)
+    let x = all .1 .1 .1 .1 .1 .1 .0 .2 .0 in
+    let y = all .1 .1 .1 .1 .1 .1 .1 .0 .2 .0 in
+    (omega (arith, all .1 .1 .1 .0, all .0 .file-count), omega (arith, c .file-place .ensures, all .1 .1 .1 .1 .0), omega arith, omega arith)
 
 returns : tie.Need-returns
 returns c =

@@ -6,11 +6,6 @@ use Rattle.image.proofs.Bytes.{all-whole, all-short, all-fault}
 use borrow.Author.Needs.{needs}
 use Rattle.image.proofs.all_there.Statement.{statement}
 use Rattle.image.proofs.all_there.Tie as tie
-<<<<<<< HEAD
-
--- `image::all_there` meets its contract: the scan of the stated bytes says it. Assumes nothing.
-=======
->>>>>>> image
 
 add-end : tie.Need-add-end
 add-end c = search needs

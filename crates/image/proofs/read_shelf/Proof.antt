@@ -7,11 +7,6 @@ use Rattle.image.specs.Reading.{ShelfRead}
 use Rattle.image.proofs.Shelf.{shelf-none, shelf-more, shelf-all}
 use Rattle.image.proofs.read_shelf.Statement.{statement}
 use Rattle.image.proofs.read_shelf.Tie as tie
-<<<<<<< HEAD
-
--- `image::read_shelf` meets its contract: the places passed are read, and the shelf is fine throughout. The measure is what is left of the places. Assumes nothing.
-=======
->>>>>>> image
 
 abbrev Inv-loop : tie.InvT-loop
 Inv-loop image file n depth lens₀ bytes₀ met₀ k₀ k-end lens bytes met k =
