@@ -9,7 +9,7 @@ use Rattle.answer.specs.Answers.{Granted}
 use Rattle.securon.specs.Sets.{Set, _⊆_, Apart}
 use Rattle.expression.specs.Bytes.{SET}
 use Rattle.policy.specs.declared.State.{State}
-use Rattle.policy.specs.State.{read, write, eOf, gOf}
+use Rattle.policy.specs.State.{read, write, t1Of, eOf, gOf}
 use Rattle.image.specs.Load.{Loads}
 use Rattle.gate.specs.Requests.{Begins, Ends, Asks, Changes, Bypasses}
 
