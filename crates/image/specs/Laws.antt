@@ -4,7 +4,7 @@ use mathlib.Core.List.{List, [], _∷_, _++_}
 use mathlib.Core.Logic.{_↔_}
 use Prim.Native.Nat.{ℕ, _<_}
 use native.Mathlib.Omega.{arith}
-use Rattle.answer.specs.Numbers.{endsEarly}
+use Rattle.answer.specs.Numbers.{endsEarly, leftOver}
 use Rattle.answer.specs.declared.Answer.{Answer}
 use Rattle.answer.specs.Answers.{Granted, Is, Leaves}
 use Rattle.answer.specs.Laws.{one-left}
@@ -23,7 +23,7 @@ use Rattle.image.specs.Load.{Gives, Loads}
 use Rattle.image.specs.Settled.{settles-whole}
 use Rattle.image.specs.Answers.{gives-one}
 use Rattle.image.specs.OnePolicy.{one-policy}
-use Rattle.image.specs.Whole.{image-read, image-cut}
+use Rattle.image.specs.Whole.{image-read, image-cut, image-over}
 use lib.ListN.{length, getD-replicate}
 
 -- the outcome decides the answer
@@ -73,6 +73,12 @@ module _ (bytes : List ℕ) (before : State) (r : Loaded) (p : Loads bytes befor
 pub cut-refused : (bytes : List ℕ) (s : State) → IsImage bytes s → (front rest : List ℕ) → bytes ≡ front ++ rest → (rest ≡ [] → ⊥) → (before : State) (r : Loaded) → Loads front before r → Is (r .answer) endsEarly (length front) × (r .state ≡ before)
 cut-refused bytes s i front rest e n before r p =
     let is = refused-exactly front before r p endsEarly (length front) (λ z. omega arith) .1 (image-cut bytes s i front rest e n) in
+    (is, p .leaves .on-refusal (λ g. omega (arith, is .number, g)))
+
+-- the image of a policy with bytes behind it is refused with 7, at the first of them, and the state stays
+pub over-refused : (bytes : List ℕ) (s : State) → IsImage bytes s → (rest : List ℕ) → (rest ≡ [] → ⊥) → (before : State) (r : Loaded) → Loads (bytes ++ rest) before r → Is (r .answer) leftOver (length bytes) × (r .state ≡ before)
+over-refused bytes s i rest n before r p =
+    let is = refused-exactly (bytes ++ rest) before r p leftOver (length bytes) (λ z. omega arith) .1 (image-over bytes s i rest n) in
     (is, p .leaves .on-refusal (λ g. omega (arith, is .number, g)))
 
 -- 53 50 54 01 00 01 00 00 is the image of the fresh state

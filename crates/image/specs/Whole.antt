@@ -10,7 +10,7 @@ use borrow.Author.Needs.{zero≤}
 use borrow.Author.Tests.{lt-ltb}
 use lib.ListN.{length, take, drop, getD, replicate, length-append, length-drop, length-replicate, List·getD-append}
 use lib.Seq.{take-suc, take-at, drop-append-seam, getD-take, getD-drop, getD-append-add, ext-getD}
-use Rattle.answer.specs.Numbers.{endsEarly, countWrong, parentWrong}
+use Rattle.answer.specs.Numbers.{endsEarly, leftOver, countWrong, parentWrong}
 use Rattle.securon.specs.Sets.{securons}
 use Rattle.tree.specs.declared.Tree.{Tree}
 use Rattle.expression.specs.Bytes.{longest}
@@ -22,17 +22,14 @@ use Rattle.policy.specs.WellFormed.{WellFormed}
 use Rattle.policy.specs.Fine.{ShelfFine, TreeFine, StateFine, OneIs, roleShelves, fileShelves}
 use Rattle.policy.specs.Fresh.{zero-shelf}
 use Rattle.policy.specs.Whole.{well-formed-fine}
+use Rattle.image.specs.declared.Met.{Met}
 use Rattle.image.specs.declared.Met.the-variants.{Read, Refused}
 use Rattle.image.specs.Image.{each, markS, markP, markT, version1, parentBytes, expressionBytes, roleBytes, fileBytes, imageOf, IsImage, longestImage}
 use Rattle.image.specs.Faults.{_then_, Field, mark, version, parent, end, Meets, Within, counted, headFields, parentFields, roleFields, fileFields, treeAt, Files, Shelves, Over, Grown, Whole}
 use Rattle.image.specs.Reading.{shelfFields, shelfBytes}
 use Rattle.image.specs.Places.{role-fields, file-fields, role-bytes, file-bytes}
 use Rattle.image.specs.OnePolicy.{parents-length}
-use Rattle.image.specs.Takes.{Takes, Any, takes-follow, takes-then, takes-byte, takes-led, takes-one, takes-more, takes-each, takes-mark, takes-version1, takes-shelf, takes-end}
-
--- the last stretch has nothing behind it
-abbrev Last : List ℕ → Type 0
-Last b = b ≡ []
+use Rattle.image.specs.Takes.{Takes, Any, takes-follow, takes-then, takes-byte, takes-led, takes-one, takes-more, takes-each, takes-mark, takes-version1, takes-shelf, Nothing, Something, takes-end, takes-over}
 
 module _ (t : Tree) (f : TreeFine t) where
   -- the parents, byte after byte
@@ -43,11 +40,11 @@ module _ (t : Tree) (f : TreeFine t) where
       take-suc (drop 1 (t .parent)) k 0 (omega (arith, length-drop 1 (t .parent)))
       ∙ ap₂ (λ (x : List ℕ) (v : ℕ). x ++ (v ∷ [])) (parents-each k (omega arith)) (getD-drop 1 (t .parent) k 0 ∙ ap (λ (i : ℕ). getD (t .parent) i 0) e)
 
-  takes-parents : (a : List ℕ) → Takes Any a (Meets (parentFields (t .n))) (parentBytes t)
+  takes-parents : (a : List ℕ) → Takes Any Read a (Meets (parentFields (t .n))) (parentBytes t)
   takes-parents a =
-      subst (Takes Any a (Meets (parentFields (t .n)))) (sym (parents-each (t .n - 1) (omega (arith, f .room, f .is-tree .count .0, f .is-tree .count .1))))
+      subst (Takes Any Read a (Meets (parentFields (t .n)))) (sym (parents-each (t .n - 1) (omega (arith, f .room, f .is-tree .count .0, f .is-tree .count .1))))
       (takes-each (t .n - 1) (λ (i : ℕ). parent (i + 1) ∷ []) (λ (i : ℕ). getD (t .parent) (i + 1) 0 ∷ [])
-      (λ i h c. takes-one Any (parent (i + 1)) c (getD (t .parent) (i + 1) 0 ∷ []) (takes-byte (λ x. x < i + 1) parentWrong (getD (t .parent) (i + 1) 0) c (f .is-tree .smaller (i + 1) (omega arith) (omega arith))))
+      (λ i h c. takes-one Any Read (parent (i + 1)) c (getD (t .parent) (i + 1) 0 ∷ []) (takes-byte (λ x. x < i + 1) parentWrong (getD (t .parent) (i + 1) 0) c (f .is-tree .smaller (i + 1) (omega arith) (omega arith))))
       a)
 
   -- they make that tree
@@ -77,18 +74,18 @@ module _ (t : Tree) (f : TreeFine t) where
       go zero = sym (f .root)
       go (suc j) = tail j (decLt j (t .n - 1))
 
-  takes-grown : (a y : List ℕ) → Takes Last (a ++ parentBytes t) (Over t) y → Takes Last a (Grown (t .n)) (parentBytes t ++ y)
-  takes-grown a y k =
-      let w = takes-follow Last (Meets (parentFields (t .n))) (λ bs at. Over (treeAt bs at (t .n))) (Over t) a (parentBytes t) y (takes-parents a) k
+  takes-grown : (Tail : List ℕ → Type 0) (out : ℕ → Met) (a y : List ℕ) → Takes Tail out (a ++ parentBytes t) (Over t) y → Takes Tail out a (Grown (t .n)) (parentBytes t ++ y)
+  takes-grown Tail out a y k =
+      let w = takes-follow Tail out (Meets (parentFields (t .n))) (λ bs at. Over (treeAt bs at (t .n))) (Over t) a (parentBytes t) y (takes-parents a) k
       (λ u i o z. subst (λ (x : Tree). Over x (a ++ (parentBytes t ++ u)) i o) (sym (tree-there a u)) z) in
       record { reads = w .reads; cuts = w .cuts }
 
 module _ (n d : ℕ) where
-  takes-role : (r : Role) → OneIs roleShelves true n d r → (a : List ℕ) → Takes Any a (Meets (roleFields n d)) (roleBytes r)
-  takes-role r w a = subst (λ (fs : List Field). Takes Any a (Meets fs) (roleBytes r)) (sym (role-fields n d)) (subst (Takes Any a (Meets (shelfFields false n d rolePlaces))) (sym (role-bytes r)) (takes-shelf false n d rolePlaces (r .lens) (r .bytes) (w .room .lengths) (w .fine refl) a))
+  takes-role : (r : Role) → OneIs roleShelves true n d r → (a : List ℕ) → Takes Any Read a (Meets (roleFields n d)) (roleBytes r)
+  takes-role r w a = subst (λ (fs : List Field). Takes Any Read a (Meets fs) (roleBytes r)) (sym (role-fields n d)) (subst (Takes Any Read a (Meets (shelfFields false n d rolePlaces))) (sym (role-bytes r)) (takes-shelf false n d rolePlaces (r .lens) (r .bytes) (w .room .lengths) (w .fine refl) a))
 
-  takes-file : (f : File) → OneIs fileShelves true n d f → (a : List ℕ) → Takes Any a (Meets (fileFields n d)) (fileBytes f)
-  takes-file f w a = subst (λ (fs : List Field). Takes Any a (Meets fs) (fileBytes f)) (sym (file-fields n d)) (subst (Takes Any a (Meets (shelfFields true n d filePlaces))) (sym (file-bytes f)) (takes-shelf true n d filePlaces (f .lens) (f .bytes) (w .room .lengths) (w .fine refl) a))
+  takes-file : (f : File) → OneIs fileShelves true n d f → (a : List ℕ) → Takes Any Read a (Meets (fileFields n d)) (fileBytes f)
+  takes-file f w a = subst (λ (fs : List Field). Takes Any Read a (Meets fs) (fileBytes f)) (sym (file-fields n d)) (subst (Takes Any Read a (Meets (shelfFields true n d filePlaces))) (sym (file-bytes f)) (takes-shelf true n d filePlaces (f .lens) (f .bytes) (w .room .lengths) (w .fine refl) a))
 
 module _ (s : State) (w : WellFormed s) where
   fine : StateFine s (w .depth)
@@ -110,37 +107,39 @@ module _ (s : State) (w : WellFormed s) where
   abbrev files : List ℕ
   files = each (s .nfiles) (λ i. fileBytes (fileAt s i))
 
-  takes-files : (a : List ℕ) → Takes Last a (Files (s .tree .n) (w .depth)) (s .nfiles ∷ files)
-  takes-files a =
-      takes-led Last (Within 0 mostFiles) countWrong (s .nfiles) (λ f. Meets (each f (λ i. fileFields (s .tree .n) (w .depth))) then Meets (end ∷ [])) a files (zero≤, fine .file-count)
-      (subst (Takes Last (a ++ (s .nfiles ∷ [])) (Meets (each (s .nfiles) (λ i. fileFields (s .tree .n) (w .depth))) then Meets (end ∷ []))) (append-nil files)
-      (takes-then Last (Meets (each (s .nfiles) (λ i. fileFields (s .tree .n) (w .depth)))) (Meets (end ∷ [])) (a ++ (s .nfiles ∷ [])) files []
-      (takes-each (s .nfiles) (λ i. fileFields (s .tree .n) (w .depth)) (λ i. fileBytes (fileAt s i)) (λ i h c. takes-file (s .tree .n) (w .depth) (fileAt s i) (file-used i h) c) (a ++ (s .nfiles ∷ [])))
-      (takes-end ((a ++ (s .nfiles ∷ [])) ++ files))))
-
-  takes-shelves : (a : List ℕ) → Takes Last a (Shelves (s .tree .n) (w .depth)) (s .nroles ∷ (roles ++ (s .nfiles ∷ files)))
-  takes-shelves a =
-      takes-led Last (Within 0 mostRoles) countWrong (s .nroles) (λ r. Meets (each r (λ i. roleFields (s .tree .n) (w .depth))) then Files (s .tree .n) (w .depth)) a (roles ++ (s .nfiles ∷ files)) (zero≤, fine .role-count)
-      (takes-then Last (Meets (each (s .nroles) (λ i. roleFields (s .tree .n) (w .depth)))) (Files (s .tree .n) (w .depth)) (a ++ (s .nroles ∷ [])) roles (s .nfiles ∷ files)
-      (takes-each (s .nroles) (λ i. roleFields (s .tree .n) (w .depth)) (λ i. roleBytes (roleAt s i)) (λ i h c. takes-role (s .tree .n) (w .depth) (roleAt s i) (role-used i h) c) (a ++ (s .nroles ∷ [])))
-      (takes-files ((a ++ (s .nroles ∷ [])) ++ roles)))
-
-  takes-over : (a : List ℕ) → Takes Last a (Over (s .tree)) (s .nroles ∷ (roles ++ (s .nfiles ∷ files)))
-  takes-over a =
-      let v = takes-shelves a in
-      record { reads = λ b t. (w .depth, w .is-depth, v .reads b t); cuts = λ p q e m. (w .depth, w .is-depth, v .cuts p q e m) }
-
-  takes-head : Takes Any [] (Meets headFields) (markS ∷ markP ∷ markT ∷ version1 ∷ 0 ∷ [])
+  takes-head : Takes Any Read [] (Meets headFields) (markS ∷ markP ∷ markT ∷ version1 ∷ 0 ∷ [])
   takes-head =
-      takes-more Any (mark markS ∷ []) (mark markP ∷ mark markT ∷ version ∷ []) [] (markS ∷ []) (markP ∷ markT ∷ version1 ∷ 0 ∷ []) (takes-mark markS [])
-      (takes-more Any (mark markP ∷ []) (mark markT ∷ version ∷ []) (markS ∷ []) (markP ∷ []) (markT ∷ version1 ∷ 0 ∷ []) (takes-mark markP (markS ∷ []))
-      (takes-more Any (mark markT ∷ []) (version ∷ []) (markS ∷ markP ∷ []) (markT ∷ []) (version1 ∷ 0 ∷ []) (takes-mark markT (markS ∷ markP ∷ [])) (takes-version1 (markS ∷ markP ∷ markT ∷ []))))
+      takes-more Any Read (mark markS ∷ []) (mark markP ∷ mark markT ∷ version ∷ []) [] (markS ∷ []) (markP ∷ markT ∷ version1 ∷ 0 ∷ []) (takes-mark markS [])
+      (takes-more Any Read (mark markP ∷ []) (mark markT ∷ version ∷ []) (markS ∷ []) (markP ∷ []) (markT ∷ version1 ∷ 0 ∷ []) (takes-mark markP (markS ∷ []))
+      (takes-more Any Read (mark markT ∷ []) (version ∷ []) (markS ∷ markP ∷ []) (markT ∷ []) (version1 ∷ 0 ∷ []) (takes-mark markT (markS ∷ markP ∷ [])) (takes-version1 (markS ∷ markP ∷ markT ∷ []))))
 
-  takes-whole : Takes Last [] Whole (imageOf s)
-  takes-whole =
-      takes-then Last (Meets headFields) (counted 1 securons Grown) [] (markS ∷ markP ∷ markT ∷ version1 ∷ 0 ∷ []) (s .tree .n ∷ (parentBytes (s .tree) ++ (s .nroles ∷ (roles ++ (s .nfiles ∷ files))))) takes-head
-      (takes-led Last (Within 1 securons) countWrong (s .tree .n) Grown (markS ∷ markP ∷ markT ∷ version1 ∷ 0 ∷ []) (parentBytes (s .tree) ++ (s .nroles ∷ (roles ++ (s .nfiles ∷ files)))) (fine .tree .is-tree .count)
-      (takes-grown (s .tree) (fine .tree) ((markS ∷ markP ∷ markT ∷ version1 ∷ 0 ∷ []) ++ (s .tree .n ∷ [])) (s .nroles ∷ (roles ++ (s .nfiles ∷ files))) (takes-over (((markS ∷ markP ∷ markT ∷ version1 ∷ 0 ∷ []) ++ (s .tree .n ∷ [])) ++ parentBytes (s .tree)))))
+  -- whatever stands behind it
+  module _ (Tail : List ℕ → Type 0) (out : ℕ → Met) (ends : (a : List ℕ) → Takes Tail out a (Meets (end ∷ [])) []) where
+    takes-files : (a : List ℕ) → Takes Tail out a (Files (s .tree .n) (w .depth)) (s .nfiles ∷ files)
+    takes-files a =
+        takes-led Tail out (Within 0 mostFiles) countWrong (s .nfiles) (λ f. Meets (each f (λ i. fileFields (s .tree .n) (w .depth))) then Meets (end ∷ [])) a files (zero≤, fine .file-count)
+        (subst (Takes Tail out (a ++ (s .nfiles ∷ [])) (Meets (each (s .nfiles) (λ i. fileFields (s .tree .n) (w .depth))) then Meets (end ∷ []))) (append-nil files)
+        (takes-then Tail out (Meets (each (s .nfiles) (λ i. fileFields (s .tree .n) (w .depth)))) (Meets (end ∷ [])) (a ++ (s .nfiles ∷ [])) files []
+        (takes-each (s .nfiles) (λ i. fileFields (s .tree .n) (w .depth)) (λ i. fileBytes (fileAt s i)) (λ i h c. takes-file (s .tree .n) (w .depth) (fileAt s i) (file-used i h) c) (a ++ (s .nfiles ∷ [])))
+        (ends ((a ++ (s .nfiles ∷ [])) ++ files))))
+
+    takes-shelves : (a : List ℕ) → Takes Tail out a (Shelves (s .tree .n) (w .depth)) (s .nroles ∷ (roles ++ (s .nfiles ∷ files)))
+    takes-shelves a =
+        takes-led Tail out (Within 0 mostRoles) countWrong (s .nroles) (λ r. Meets (each r (λ i. roleFields (s .tree .n) (w .depth))) then Files (s .tree .n) (w .depth)) a (roles ++ (s .nfiles ∷ files)) (zero≤, fine .role-count)
+        (takes-then Tail out (Meets (each (s .nroles) (λ i. roleFields (s .tree .n) (w .depth)))) (Files (s .tree .n) (w .depth)) (a ++ (s .nroles ∷ [])) roles (s .nfiles ∷ files)
+        (takes-each (s .nroles) (λ i. roleFields (s .tree .n) (w .depth)) (λ i. roleBytes (roleAt s i)) (λ i h c. takes-role (s .tree .n) (w .depth) (roleAt s i) (role-used i h) c) (a ++ (s .nroles ∷ [])))
+        (takes-files ((a ++ (s .nroles ∷ [])) ++ roles)))
+
+    takes-tree : (a : List ℕ) → Takes Tail out a (Over (s .tree)) (s .nroles ∷ (roles ++ (s .nfiles ∷ files)))
+    takes-tree a =
+        let v = takes-shelves a in
+        record { reads = λ b t. (w .depth, w .is-depth, v .reads b t); cuts = λ p q e m. (w .depth, w .is-depth, v .cuts p q e m) }
+
+    takes-whole : Takes Tail out [] Whole (imageOf s)
+    takes-whole =
+        takes-then Tail out (Meets headFields) (counted 1 securons Grown) [] (markS ∷ markP ∷ markT ∷ version1 ∷ 0 ∷ []) (s .tree .n ∷ (parentBytes (s .tree) ++ (s .nroles ∷ (roles ++ (s .nfiles ∷ files))))) takes-head
+        (takes-led Tail out (Within 1 securons) countWrong (s .tree .n) Grown (markS ∷ markP ∷ markT ∷ version1 ∷ 0 ∷ []) (parentBytes (s .tree) ++ (s .nroles ∷ (roles ++ (s .nfiles ∷ files)))) (fine .tree .is-tree .count)
+        (takes-grown (s .tree) (fine .tree) Tail out ((markS ∷ markP ∷ markT ∷ version1 ∷ 0 ∷ []) ++ (s .tree .n ∷ [])) (s .nroles ∷ (roles ++ (s .nfiles ∷ files))) (takes-tree (((markS ∷ markP ∷ markT ∷ version1 ∷ 0 ∷ []) ++ (s .tree .n ∷ [])) ++ parentBytes (s .tree)))))
 
 -- so many stretches, each of at most so many bytes
 each-length : (k m : ℕ) (f : ℕ → List ℕ) → ((j : ℕ) → j < k → length (f j) ≤ m) → length (each k f) ≤ k * m
@@ -157,11 +156,18 @@ module _ (bytes : List ℕ) (s : State) (im : IsImage bytes s) where
   image-read =
       subst (λ (l : List ℕ). Whole l 0 (Read (length l))) (sym (im .is))
       (let e : 0 + length (imageOf s) ≡ length (imageOf s) = omega arith in
-      subst (λ (k : ℕ). Whole (imageOf s) 0 (Read k)) e (subst (λ (l : List ℕ). Whole l 0 (Read (0 + length (imageOf s)))) (append-nil (imageOf s)) (takes-whole s (im .well-formed) .reads [] refl)))
+      subst (λ (k : ℕ). Whole (imageOf s) 0 (Read k)) e (subst (λ (l : List ℕ). Whole l 0 (Read (0 + length (imageOf s)))) (append-nil (imageOf s)) (takes-whole s (im .well-formed) Nothing Read takes-end .reads [] refl)))
 
   -- cut anywhere, it ends early
   pub image-cut : (p q : List ℕ) → bytes ≡ p ++ q → (q ≡ [] → ⊥) → Whole p 0 (Refused endsEarly (length p))
-  image-cut p q e n = takes-whole s (im .well-formed) .cuts p q (sym (im .is) ∙ e) n
+  image-cut p q e n = takes-whole s (im .well-formed) Nothing Read takes-end .cuts p q (sym (im .is) ∙ e) n
+
+  -- with bytes behind it, the first of them is left over
+  pub image-over : (rest : List ℕ) → (rest ≡ [] → ⊥) → Whole (bytes ++ rest) 0 (Refused leftOver (length bytes))
+  image-over rest n =
+      subst (λ (l : List ℕ). Whole (l ++ rest) 0 (Refused leftOver (length l))) (sym (im .is))
+      (let e : 0 + length (imageOf s) ≡ length (imageOf s) = omega arith in
+      subst (λ (k : ℕ). Whole (imageOf s ++ rest) 0 (Refused leftOver k)) e (takes-whole s (im .well-formed) Something (Refused leftOver) takes-over .reads rest n))
 
   -- no image is longer than 51,815 bytes
   pub image-length : length bytes ≤ longestImage
