@@ -1,5 +1,5 @@
 -- What the stages of a request know of the state, and what they make of it. Assumes nothing.
-use mathlib.Core.Path.{_≡_, refl, sym, subst, ap, _∙_}
+use mathlib.Core.Path.{_≡_, subst}
 use mathlib.Core.Bool.{Bool, true, false}
 use mathlib.Core.List.{List, [], _∷_, _++_}
 use mathlib.Core.Logic.{inl, inr, _↔_}
@@ -7,7 +7,7 @@ use Prim.Native.Nat.{ℕ, _<_}
 use native.Mathlib.Omega.{arith}
 use Rattle.answer.specs.declared.Answer.{Answer}
 use Rattle.answer.specs.Numbers.{done}
-use Rattle.answer.specs.Answers.{Condition, must, Is, Granted}
+use Rattle.answer.specs.Answers.{Condition, Is, Granted}
 use Rattle.securon.specs.Iff.{not-then-false}
 use Rattle.tree.specs.declared.Levels.{Levels}
 use Rattle.tree.specs.Tree.{LevelsOf}

@@ -4,27 +4,25 @@ use mathlib.Core.Bool.{true}
 use mathlib.Core.List.{List, [], _∷_, _++_}
 use Prim.Native.Nat.{ℕ, _+_}
 use native.Mathlib.Decide.{ℕ-discrete}
-use native.Mathlib.Omega.{arith}
 use Rattle.answer.specs.declared.Answer.{Answer}
 use Rattle.answer.specs.Numbers.{bypassLacks}
-use Rattle.answer.specs.Answers.{Condition, must, Granted, Leaves}
+use Rattle.answer.specs.Answers.{Condition, must, Granted}
 use Rattle.answer.specs.Laws.{AtMostOne, OnePlaceEach, said, one-answer, one-left}
 use Rattle.tree.specs.declared.Tree.{Tree}
 use Rattle.tree.specs.Laws.{one-depth}
 use Rattle.expression.specs.declared.Kind.{Kind}
 use Rattle.expression.specs.declared.Kind.the-variants.{Privilege, Protection}
-use Rattle.expression.specs.Bytes.{InOrder}
-use Rattle.expression.specs.Judge.{InOrderOver, WrongOver}
+use Rattle.expression.specs.Judge.{WrongOver}
 use Rattle.expression.specs.One.{one-wrong-over}
-use Rattle.policy.specs.declared.Hold.the-variants.{Free, By}
+use Rattle.policy.specs.declared.Hold.the-variants.{By}
 use Rattle.policy.specs.declared.State.{State}
-use Rattle.policy.specs.State.{holdOf, withHold, withT1T2, withEG, changeProtection}
+use Rattle.policy.specs.State.{holdOf, changeProtection}
 use Rattle.policy.specs.WellFormed.{WellFormed}
 use Rattle.policy.specs.Kept.{by-kept, free-kept, t1t2-kept, eg-kept}
 use Rattle.policy.specs.Reads.{hold-here}
 use Rattle.gate.specs.declared.Outcome.{Outcome}
 use Rattle.gate.specs.Rules.{Covers}
-use Rattle.gate.specs.Requests.{Session, beginConditions, endConditions, rowConditions, askConditions, second, Added, inOrder, expressionConditions, changeConditions, bypassConditions, Answers, Does, Begins, Ends, Asks, Changes, Bypasses}
+use Rattle.gate.specs.Requests.{Session, beginConditions, endConditions, rowConditions, askConditions, second, Added, inOrder, expressionConditions, changeConditions, bypassConditions, Does, Begins, Ends, Asks, Changes, Bypasses}
 use Rattle.gate.specs.Lists.{AllHold, refuses, granted-all}
 
 -- a session has one role
@@ -68,8 +66,7 @@ module _ (s : State) (slot : ℕ) where
 one-outcome : (cs : List Condition) (made before : State) → OnePlaceEach cs → AtMostOne (Does cs made before)
 one-outcome cs made before one x y p q =
     let a = one-answer cs (λ k. k ≡ 0) one (said 0) (x .answer) (y .answer) (p .decides) (q .decides) in
-    let l = subst (λ (z : Answer). Leaves z (λ t. t ≡ made) before (x .state)) a (p .leaves) in
-    let b = one-left (y .answer) (λ (t : State). t ≡ made) (λ u v e f. e ∙ sym f) before (x .state) (y .state) l (q .leaves) in
+    let b = one-left (y .answer) (λ (t : State). t ≡ made) (λ u v e f. e ∙ sym f) _ (x .state) (y .state) (rw a at (p .leaves)) (q .leaves) in
     ap₂ (λ (z : Answer) (t : State). record { answer = z; state = t }) a b
 
 module _ (s : State) (slot : ℕ) where
@@ -88,6 +85,12 @@ module _ (s : State) (slot : ℕ) where
 
     pub one-bypass : (e g : List ℕ) → AtMostOne (Bypasses s slot file mode e g)
     one-bypass e g = one-outcome (bypassConditions s slot file mode e g) _ s (bypass-places s slot file mode e g)
+
+-- begin takes nothing from the slot's past: what a begun slot holds is the role asked for
+pub begun-holds : (s : State) (slot role : ℕ) (r : Outcome) → Begins s slot role r → Granted (r .answer) → holdOf (r .state) slot ≡ By role
+begun-holds s slot role r d g =
+    let h = granted-all (λ k. k ≡ 0) (r .answer) (beginConditions s slot role) refl (d .decides) g in
+    ap (λ (t : State). holdOf t slot) (d .leaves .on-grant g) ∙ hold-here s (h .0 .room) slot (By role) (h .1 .0)
 
 -- a request keeps a well-formed state well formed, if what a grant makes is well formed
 kept : (cs : List Condition) (made s : State) (r : Outcome) → refuses cs ≡ true → WellFormed s → (AllHold cs → WellFormed made) → Does cs made s r → WellFormed (r .state)
@@ -116,9 +119,3 @@ module _ (s : State) (w : WellFormed s) (slot : ℕ) where
         let (d, p, o) = h .1 .1 .1 .1 .1 .1 .0 in
         let (e, q, v) = h .1 .1 .1 .1 .1 .1 .1 .0 in
         eg-kept s w d p file (h .1 .1 .1 .0) mode (h .1 .1 .1 .1 .0) x y o (rw (one-depth q p) at v))
-
--- begin takes nothing from the slot's past: what a begun slot holds is the role asked for
-pub begun-holds : (s : State) (slot role : ℕ) (r : Outcome) → Begins s slot role r → Granted (r .answer) → holdOf (r .state) slot ≡ By role
-begun-holds s slot role r d g =
-    let h = granted-all (λ k. k ≡ 0) (r .answer) (beginConditions s slot role) refl (d .decides) g in
-    ap (λ (t : State). holdOf t slot) (d .leaves .on-grant g) ∙ hold-here s (h .0 .room) slot (By role) (h .1 .0)

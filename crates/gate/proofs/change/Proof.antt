@@ -1,5 +1,5 @@
 -- `gate::change` meets its contract: T1 and T2 are stored exactly if the answer is a grant. Assumes nothing.
-use mathlib.Core.Path.{_≡_, refl, ap, _∙_}
+use mathlib.Core.Path.{refl, ap, _∙_}
 use Prim.Native.Nat.{ℕ}
 use native.Mathlib.Omega.{arith}
 use Rattle.securon.specs.Iff.{not-then-false}

@@ -1,5 +1,4 @@
 -- `gate::covers` meets its contract: the sets at hand have the members of those that are meant, and E and G are tested one after the other. Assumes nothing.
-use mathlib.Core.Path.{_≡_}
 use native.Mathlib.Omega.{arith}
 use borrow.Author.Tests.{not-true, not-false}
 use Rattle.securon.specs.Iff.{iff-trans, not-then-false}

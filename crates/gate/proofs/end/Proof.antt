@@ -1,5 +1,5 @@
 -- `gate::end` meets its contract: the slot is freed exactly if the answer is a grant. Assumes nothing.
-use mathlib.Core.Path.{_≡_, refl}
+use mathlib.Core.Path.{refl}
 use Rattle.securon.specs.Iff.{not-then-false}
 use Rattle.gate.specs.Requests.{sessionConditions}
 use Rattle.gate.proofs.Stages.{seat-holds, done-granted, done-refused}

@@ -1,5 +1,5 @@
 -- `gate::is_free` meets its contract: what holds a role is not free. Assumes nothing.
-use mathlib.Core.Path.{_≡_, sym, _∙_}
+use mathlib.Core.Path.{sym, _∙_}
 use Rattle.policy.specs.Whole.{free-held}
 use Rattle.gate.proofs.Row.{no-iff}
 use borrow.Author.Needs.{needs}

@@ -1,5 +1,5 @@
 -- `gate::judge` meets its contract: the check says whether the bytes are in order, or the place. Assumes nothing.
-use mathlib.Core.Path.{_≡_, subst, ap, _∙_}
+use mathlib.Core.Path.{subst}
 use mathlib.Core.Logic.{inl, inr}
 use native.Mathlib.Omega.{arith}
 use Rattle.expression.specs.Bytes.{Checks}

@@ -1,5 +1,4 @@
 -- `gate::mediates` meets its contract: the sets at hand have the members of those that are meant. Assumes nothing.
-use mathlib.Core.Path.{_≡_}
 use native.Mathlib.Omega.{arith}
 use Rattle.securon.specs.Iff.{iff-trans}
 use Rattle.gate.proofs.Row.{other-fits, same-mediates}

@@ -1,5 +1,4 @@
 -- `gate::minus_passes` meets its contract: the set at hand has V-'s members, and the two tests are the two facts. Assumes nothing.
-use mathlib.Core.Path.{_≡_}
 use native.Mathlib.Omega.{arith}
 use Rattle.securon.specs.Iff.{iff-trans, not-then-false}
 use Rattle.gate.proofs.Row.{no-iff, same-t2, same-apart}

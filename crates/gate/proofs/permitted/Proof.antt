@@ -1,5 +1,5 @@
 -- `gate::permitted` meets its contract: a refusal of the stage before stands; else each return names the condition that did not hold. Assumes nothing.
-use mathlib.Core.Path.{_≡_, refl}
+use mathlib.Core.Path.{refl}
 use mathlib.Core.Logic.{inl, inr}
 use native.Mathlib.Omega.{arith}
 use borrow.Author.Tests.{not-true, not-false}

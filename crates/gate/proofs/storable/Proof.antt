@@ -1,6 +1,5 @@
 -- `gate::storable` meets its contract: a refusal of the stage before stands; else the two expressions decide. Assumes nothing.
 use mathlib.Core.Path.{_≡_, refl}
-use native.Mathlib.Omega.{arith}
 use borrow.Author.Tests.{not-true, not-false}
 use Rattle.securon.specs.Iff.{not-then-false}
 use Rattle.policy.specs.State.{changeProtection}
