@@ -1,4 +1,6 @@
 // Expressions over the tree of 01's examples: n = 8, parents of 1 to 7: 0 0 1 1 2 2 0, so depth 2.
+use crate::output::write;
+use crate::output::write_answer;
 use answer::EXPRESSION_WRONG;
 use expression::Checked;
 use expression::Judged;
@@ -21,25 +23,12 @@ fn tree() -> Tree {
     Tree { n: 8, parent }
 }
 
-fn write(words: &[u8]) {
-    io::write_all(STDOUT_FILENO, words);
-}
-
 // The bytes in hex, each after a space.
 fn write_bytes(b: &[u8]) {
     for k in 0..b.len() {
         write(b" ");
         io::print_hex(STDOUT_FILENO, b[k] as u64, 2);
     }
-}
-
-// A number and a place, and a line end.
-fn write_answer(number: u8, place: usize) {
-    write(b": ");
-    io::print_decimal(STDOUT_FILENO, number as u64);
-    write(b" ");
-    io::print_decimal(STDOUT_FILENO, place as u64);
-    write(b"\n");
 }
 
 // Whether bytes are in order: 0 0, or 6 and the place.
