@@ -22,6 +22,7 @@ infixr 30 _then_
 abbrev pub Stretch : Type 1
 Stretch = List ℕ → ℕ → Met → Type 0
 
+-- it is refused
 abbrev pub IsRefusal : Met → Type 0
 IsRefusal (Read next) = ⊥
 IsRefusal (Refused number place) = Unit {0}
@@ -52,7 +53,7 @@ Version bs at o =
     ((length bs ≤ at + 1) × Early bs o)
     ⊎ ((at + 1 < length bs) × Judged (lowFirst (getD bs at 0) (getD bs (at + 1) 0) ≡ version1) (Read (at + 2)) (Refused versionWrong at) o)
 
--- of an expression's m stated bytes, those that are there
+-- of the m stated bytes of an expression, those that are there
 abbrev pub present : ℕ → List ℕ → ℕ → List ℕ
 present m bs at = take m (drop at bs)
 
@@ -68,6 +69,7 @@ Cut kind n d m bs at o =
     (Begins (Right kind n d) (present m bs at) × Early bs o)
     ⊎ ((k : ℕ) × (k < length (present m bs at)) × FaultAt (Right kind n d) (present m bs at) k × (o ≡ Refused expressionWrong (at + k)))
 
+-- of an expression's m stated bytes, all are there, or the image ends before
 abbrev pub Stated : Kind → ℕ → ℕ → ℕ → Stretch
 Stated kind n d m bs at o = ((at + m ≤ length bs) × AllThere kind n d m bs at o) ⊎ ((length bs < at + m) × Cut kind n d m bs at o)
 
@@ -79,7 +81,7 @@ Expression kind n d = led (λ m. m ≤ longest) expressionWrong (Stated kind n d
 abbrev pub End : Stretch
 End bs at o = Judged (length bs ≤ at) (Read at) (Refused leftOver at) o
 
--- the fields of an image whose number is known: a byte of the mark; the version; the parent of securon u, which must be smaller; an expression of a kind, over n securons and the depth d; the end
+-- the fields of an image: a byte of the mark; the version; the parent of securon u, which must be smaller; an expression of a kind, over n securons and the depth d; the end. (A count is no field of a list: how many fields follow depends on it, see `counted`)
 pub data Field : Type 0 where
   mark : ℕ → Field
   version : Field
@@ -87,6 +89,7 @@ pub data Field : Type 0 where
   expression : Kind → ℕ → ℕ → Field
   end : Field
 
+-- what comes of each
 abbrev pub Faces : Field → Stretch
 Faces (mark b) = Byte (λ x. x ≡ b) markWrong
 Faces version = Version
@@ -127,7 +130,7 @@ fileFields n d =
     let protection = expression Protection n d in
     each modeCount (λ mode. protection ∷ privilege ∷ protection ∷ privilege ∷ [])
 
--- the tree of n securons whose parents, for securons 1 up, stand from a place on
+-- the tree of n securons whose parents, for securons 1 up, stand from a place on. (Unused room is zero)
 unfoldable pub treeAt : List ℕ → ℕ → ℕ → Tree
 treeAt bs at n = record { n = n; parent = 0 ∷ (take (n - 1) (drop at bs) ++ replicate (securons - n) 0) }
 
