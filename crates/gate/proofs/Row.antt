@@ -1,17 +1,21 @@
 -- What the tests of a row tell of the rule, where a set at hand has the members of the set that is meant. Assumes nothing.
-use mathlib.Core.Path.{_≡_, refl, sym, _∙_}
+use mathlib.Core.Path.{_≡_, refl, sym, _∙_, subst}
 use mathlib.Core.Bool.{Bool, true, false, _&&_, false≢true}
 use mathlib.Core.List.{List}
 use mathlib.Core.Logic.{_⊎_, inl, inr, ⊎-elim, _↔_}
-use Prim.Native.Nat.{ℕ, _≤_}
+use Prim.Native.Nat.{ℕ, _<_, _≤_, _%_}
 use native.Mathlib.Omega.{arith}
 use lib.ListN.{getD}
 use Rattle.securon.specs.Sets.{Set, _∪_, _⊆_, _≐_, Apart, marked}
 use Rattle.securon.specs.Iff.{and-iff, iff-trans}
 use Rattle.tree.specs.declared.Tree.{Tree}
 use Rattle.expression.specs.declared.Kind.{Kind}
+use Rattle.expression.specs.declared.Kind.the-variants.{Privilege}
 use Rattle.expression.specs.Bytes.{longest, WrongAt, MeetsBytes, MeetsT1, MeetsT2}
-use Rattle.policy.specs.State.{read, write}
+use Rattle.policy.specs.declared.File.{File}
+use Rattle.policy.specs.State.{filePlaces, read, write}
+use Rattle.policy.specs.WellFormed.{PartInOrder, FileInOrder}
+use Rattle.policy.specs.Parts.{odd-kind, file-by-place}
 use Rattle.gate.specs.Rules.{MediatesRow, EntersOrLeaves}
 
 -- a test that says no, where the fact does not hold
@@ -93,3 +97,7 @@ same-altered a b s = (
   (λ h u. ⊎-elim (λ m. s u .0 (h u (inl (b u .1 (m .0), λ n. m .1 (a u .0 n))))) (λ m. s u .0 (h u (inr (a u .1 (m .0), λ n. m .1 (b u .0 n)))))),
   λ h u. ⊎-elim (λ m. s u .1 (h u (inl (b u .0 (m .0), λ n. m .1 (a u .1 n))))) (λ m. s u .1 (h u (inr (a u .0 (m .0), λ n. m .1 (b u .1 n))))),
 )
+
+-- E and G stand at a file's odd places
+pub odd-part : {n d : ℕ} {f : File} → FileInOrder n d f → (k : ℕ) → k < filePlaces → k % 2 ≡ 1 → PartInOrder Privilege n d (f .lens) (f .bytes) k
+odd-part {n} {d} {f} o k l e = subst (λ (kind : Kind). PartInOrder kind n d (f .lens) (f .bytes) k) (odd-kind k e) (file-by-place o k l)

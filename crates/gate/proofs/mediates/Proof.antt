@@ -1,7 +1,7 @@
 -- `gate::mediates` meets its contract: the sets at hand have the members of those that are meant. Assumes nothing.
 use native.Mathlib.Omega.{arith}
 use Rattle.securon.specs.Iff.{iff-trans}
-use Rattle.gate.proofs.Row.{other-fits, same-mediates}
+use Rattle.gate.proofs.Row.{odd-part, other-fits, same-mediates}
 use borrow.Author.Needs.{needs}
 use Rattle.gate.proofs.mediates.Statement.{statement}
 use Rattle.gate.proofs.mediates.Tie as tie
@@ -19,13 +19,13 @@ file-place-requires : tie.Need-file-place-requires
 file-place-requires c κs = search needs
 
 file-set-requires : tie.Need-file-set-requires
-file-set-requires c κs = let p = c .before .before .before .before .pre in rw (c .file-place .ensures) (p .ready, omega arith, p .file .e 0 (omega arith))
+file-set-requires c κs = let p = c .before .before .before .before .pre in (p .ready, omega (arith, c .file-place .ensures), odd-part (p .file) (c .file-place .result) (omega (arith, c .file-place .ensures)) (omega (arith, c .file-place .ensures)))
 
 file-place-requires-2 : tie.Need-file-place-requires-2
 file-place-requires-2 c κs = search needs
 
 file-set-requires-2 : tie.Need-file-set-requires-2
-file-set-requires-2 c κs = let p = c .before .before .before .before .before .before .pre in rw (c .file-place2 .ensures) (p .ready, omega arith, p .file .g 0 (omega arith))
+file-set-requires-2 c κs = let p = c .before .before .before .before .before .before .pre in (p .ready, omega (arith, c .file-place2 .ensures), odd-part (p .file) (c .file-place2 .result) (omega (arith, c .file-place2 .ensures)) (omega (arith, c .file-place2 .ensures)))
 
 sets-fit-requires : tie.Need-sets-fit-requires
 sets-fit-requires c κs = search needs
