@@ -23,7 +23,7 @@ pub const CHANGE: u8 = 4;
 
 // The tree of 01's examples, two roles, two files.
 pub fn base() -> State {
-    let mut image = [0u8; 82];
+    let mut image = [0u8; 81];
     image[0] = b'S';
     image[1] = b'P';
     image[2] = b'T';
