@@ -3,8 +3,13 @@ mod calls;
 mod expressions;
 mod images;
 mod output;
+mod policies;
+mod requests;
+mod stores;
 
 fn main() {
     expressions::run();
     images::run();
+    requests::run();
+    stores::run();
 }
