@@ -1,44 +1,64 @@
-// The calls, each with the line that it writes: the case's name, the number and the place.
+// The calls of a policy, each with the line that it writes.
 use crate::output::write;
 use crate::output::write_answer;
+use crate::output::write_number;
 use answer::Answer;
 use policy::State;
 
-fn write_line(name: &[u8], answer: Answer) {
-    write(name);
-    write_answer(answer.number, answer.place);
-}
-
 pub fn load(name: &[u8], s: State, image: &[u8]) -> State {
     let loaded = image::load(s, image);
-    write_line(name, loaded.answer);
+    write_answer(name, loaded.answer);
     loaded.state
 }
 
 pub fn begin(name: &[u8], s: State, slot: u8, role: u8) -> State {
     let outcome = gate::begin(s, slot, role);
-    write_line(name, outcome.answer);
+    write_answer(name, outcome.answer);
     outcome.state
 }
 
 pub fn end(name: &[u8], s: State, slot: u8) -> State {
     let outcome = gate::end(s, slot);
-    write_line(name, outcome.answer);
+    write_answer(name, outcome.answer);
     outcome.state
 }
 
 pub fn ask(name: &[u8], s: State, slot: u8, file: u8, mode: u8) {
-    write_line(name, gate::ask(s, slot, file, mode));
+    write_answer(name, gate::ask(s, slot, file, mode));
 }
 
 pub fn change(name: &[u8], s: State, slot: u8, file: u8, mode: u8, t1: &[u8], t2: &[u8]) -> State {
     let outcome = gate::change(s, slot, file, mode, t1, t2);
-    write_line(name, outcome.answer);
+    write_answer(name, outcome.answer);
     outcome.state
 }
 
 pub fn bypass(name: &[u8], s: State, slot: u8, file: u8, mode: u8, e: &[u8], g: &[u8]) -> State {
     let outcome = gate::bypass(s, slot, file, mode, e, g);
-    write_line(name, outcome.answer);
+    write_answer(name, outcome.answer);
     outcome.state
+}
+
+fn number_of(answer: Answer) {
+    write_number(answer.number as usize);
+}
+
+// The numbers of begin, end, ask, change, bypass: first as a well-formed state grants them all, then with a slot number over 15 and all else wrong.
+pub fn five(name: &[u8], s: State) {
+    let none = [0u8; 0];
+    let wrong = [5u8; 1];
+    write(name);
+    write(b":");
+    number_of(gate::begin(s, 1, 0).answer);
+    number_of(gate::end(s, 0).answer);
+    number_of(gate::ask(s, 0, 0, 4));
+    number_of(gate::change(s, 0, 0, 4, &none, &none).answer);
+    number_of(gate::bypass(s, 0, 0, 4, &none, &none).answer);
+    write(b";");
+    number_of(gate::begin(s, 16, 255).answer);
+    number_of(gate::end(s, 16).answer);
+    number_of(gate::ask(s, 16, 255, 255));
+    number_of(gate::change(s, 255, 255, 255, &wrong, &wrong).answer);
+    number_of(gate::bypass(s, 255, 255, 255, &wrong, &wrong).answer);
+    write(b"\n");
 }

@@ -1,27 +1,20 @@
-// Small states to make requests on: two roles and two files, all of whose expressions are empty, and the parts that a case puts in.
+// Small states to make requests on, and parts of them altered: also to what is not well formed.
 use expression::LONGEST;
 use policy::FILE_BYTES;
 use policy::FILE_PLACES;
 use policy::FILES;
 use policy::File;
+use policy::Hold;
 use policy::ROLE_BYTES;
 use policy::ROLE_PLACES;
 use policy::ROLES;
 use policy::Role;
+use policy::SLOTS;
 use policy::State;
+use securon::SECURONS;
+use tree::Tree;
 
-// The modes as a request has them.
-pub const READ: u8 = 0;
-
-pub const WRITE: u8 = 1;
-
-pub const EXECUTE: u8 = 2;
-
-pub const DETECT: u8 = 3;
-
-pub const CHANGE: u8 = 4;
-
-// The tree of 01's examples, two roles, two files.
+// The tree of 01's examples, two roles and two files whose expressions are all empty; slot 0 holds role 0.
 pub fn base() -> State {
     let mut image = [0u8; 81];
     image[0] = b'S';
@@ -35,16 +28,12 @@ pub fn base() -> State {
     image[11] = 2;
     image[13] = 2;
     image[40] = 2;
-    image::load(State::fresh(), &image).state
+    let s = image::load(State::fresh(), &image).state;
+    gate::begin(s, 0, 0).state
 }
 
-// The same, and slot 0 holds role 0.
-pub fn session() -> State {
-    gate::begin(base(), 0, 0).state
-}
-
-// The state with b at a place of a role.
-pub fn role_part(mut s: State, role: usize, place: usize, b: &[u8]) -> State {
+// b at a place of a role.
+pub fn role(mut s: State, role: usize, place: usize, b: &[u8]) -> State {
     if ROLES <= role {
         return s;
     }
@@ -61,8 +50,8 @@ pub fn role_part(mut s: State, role: usize, place: usize, b: &[u8]) -> State {
     s
 }
 
-// The state with b at a place of a file.
-pub fn file_part(mut s: State, file: usize, place: usize, b: &[u8]) -> State {
+// b at a place of a file.
+pub fn file(mut s: State, file: usize, place: usize, b: &[u8]) -> State {
     if FILES <= file {
         return s;
     }
@@ -79,7 +68,7 @@ pub fn file_part(mut s: State, file: usize, place: usize, b: &[u8]) -> State {
     s
 }
 
-// The state with another byte in the room of a role, whatever the lengths say.
+// A byte in the room of a role, whatever the lengths say.
 pub fn role_byte(mut s: State, role: usize, at: usize, x: u8) -> State {
     if ROLES <= role {
         return s;
@@ -96,7 +85,7 @@ pub fn role_byte(mut s: State, role: usize, at: usize, x: u8) -> State {
     s
 }
 
-// The state with another byte in the room of a file.
+// A byte in the room of a file.
 pub fn file_byte(mut s: State, file: usize, at: usize, x: u8) -> State {
     if FILES <= file {
         return s;
@@ -113,63 +102,85 @@ pub fn file_byte(mut s: State, file: usize, at: usize, x: u8) -> State {
     s
 }
 
-// The state with b at V+ or V- of a mode of role 0.
-fn sense_part(s: State, mode: usize, sense: usize, b: &[u8]) -> State {
-    if policy::MODES <= mode {
+// A length of a role, whatever the bytes are.
+pub fn role_length(mut s: State, role: usize, place: usize, x: u8) -> State {
+    if ROLES <= role {
         return s;
     }
-    if policy::SENSES <= sense {
+    if ROLE_PLACES <= place {
         return s;
     }
-    role_part(s, 0, policy::role_place(mode, sense), b)
+    let roles = s.roles;
+    let old = roles[role];
+    let mut lens = old.lens;
+    let bytes = old.bytes;
+    lens[place] = x;
+    s.roles[role] = Role { lens, bytes };
+    s
 }
 
-// The state with b at a part of a row of file 0.
-fn row_part(s: State, mode: usize, part: usize, b: &[u8]) -> State {
-    if policy::MODES <= mode {
+// A length of a file.
+pub fn file_length(mut s: State, file: usize, place: usize, x: u8) -> State {
+    if FILES <= file {
         return s;
     }
-    if policy::PARTS <= part {
+    if FILE_PLACES <= place {
         return s;
     }
-    file_part(s, 0, policy::file_place(mode, part), b)
+    let files = s.files;
+    let old = files[file];
+    let mut lens = old.lens;
+    let bytes = old.bytes;
+    lens[place] = x;
+    s.files[file] = File { lens, bytes };
+    s
 }
 
-// V+ and V- of role 0.
-pub fn plus(s: State, mode: u8, b: &[u8]) -> State {
-    sense_part(s, mode as usize, policy::V_PLUS, b)
+// The length that is stored at a place of file 0.
+pub fn stored_length(s: State, place: usize) -> u8 {
+    if FILE_PLACES <= place {
+        return 0;
+    }
+    let files = s.files;
+    let file = files[0];
+    let lens = file.lens;
+    lens[place]
 }
 
-pub fn minus(s: State, mode: u8, b: &[u8]) -> State {
-    sense_part(s, mode as usize, policy::V_MINUS, b)
+// Another count of securons.
+pub fn securons(mut s: State, n: usize) -> State {
+    let t = s.tree;
+    let parent = t.parent;
+    let tree = Tree { n, parent };
+    s.tree = tree;
+    s
 }
 
-// M1, M2 and B of role 0.
-pub fn m1(s: State, b: &[u8]) -> State {
-    role_part(s, 0, policy::M1_PLACE, b)
+// Another parent.
+pub fn parent(mut s: State, u: usize, x: u8) -> State {
+    if SECURONS <= u {
+        return s;
+    }
+    let t = s.tree;
+    let n = t.n;
+    let mut parent = t.parent;
+    parent[u] = x;
+    let tree = Tree { n, parent };
+    s.tree = tree;
+    s
 }
 
-pub fn m2(s: State, b: &[u8]) -> State {
-    role_part(s, 0, policy::M2_PLACE, b)
+// A slot that holds a role.
+pub fn hold(s: State, slot: usize, role: u8) -> State {
+    if SLOTS <= slot {
+        return s;
+    }
+    s.with_hold(slot, Hold::By(role))
 }
 
-pub fn bypass_set(s: State, b: &[u8]) -> State {
-    role_part(s, 0, policy::B_PLACE, b)
-}
-
-// T1, E, T2 and G of file 0.
-pub fn t1(s: State, mode: u8, b: &[u8]) -> State {
-    row_part(s, mode as usize, policy::T1, b)
-}
-
-pub fn e(s: State, mode: u8, b: &[u8]) -> State {
-    row_part(s, mode as usize, policy::E, b)
-}
-
-pub fn t2(s: State, mode: u8, b: &[u8]) -> State {
-    row_part(s, mode as usize, policy::T2, b)
-}
-
-pub fn g(s: State, mode: u8, b: &[u8]) -> State {
-    row_part(s, mode as usize, policy::G, b)
+// Other counts of roles and of files.
+pub fn counts(mut s: State, nroles: usize, nfiles: usize) -> State {
+    s.nroles = nroles;
+    s.nfiles = nfiles;
+    s
 }

@@ -5,21 +5,6 @@ use borrow.Author.Needs.{needs}
 use Rattle.vectors.proofs.expressions.meets.Statement.{statement}
 use Rattle.vectors.proofs.expressions.meets.Tie as tie
 
-write-requires : tie.Need-write-requires
-write-requires c κs = search needs
-
-write-bytes-requires : tie.Need-write-bytes-requires
-write-bytes-requires c κs = search needs
-
-slice-aggregate-write : tie.Need-slice-aggregate-write
-slice-aggregate-write c = search needs
-
-write-requires-2 : tie.Need-write-requires-2
-write-requires-2 c κs = search needs
-
-write-bytes-requires-2 : tie.Need-write-bytes-requires-2
-write-bytes-requires-2 c κs = search needs
-
 tree-requires : tie.Need-tree-requires
 tree-requires c κs = search needs
 
@@ -38,23 +23,26 @@ judge-requires c κs = subst (Shaped _) (c .before .enum-told .given .1) (c .bef
 enum-told-2 : tie.Need-enum-told-2
 enum-told-2 c = search needs
 
-slice-aggregate-write-2 : tie.Need-slice-aggregate-write-2
-slice-aggregate-write-2 c = search needs
+slice-aggregate-write-met : tie.Need-slice-aggregate-write-met
+slice-aggregate-write-met c = search needs
 
-write-requires-3 : tie.Need-write-requires-3
-write-requires-3 c κs = search needs
+write-met-requires : tie.Need-write-met-requires
+write-met-requires c κs = search needs
 
 enum-told-3 : tie.Need-enum-told-3
 enum-told-3 c = search needs
 
-slice-aggregate-write-3 : tie.Need-slice-aggregate-write-3
-slice-aggregate-write-3 c = search needs
+slice-aggregate-write-met-2 : tie.Need-slice-aggregate-write-met-2
+slice-aggregate-write-met-2 c = search needs
 
-write-requires-4 : tie.Need-write-requires-4
-write-requires-4 c κs = search needs
+write-met-requires-2 : tie.Need-write-met-requires-2
+write-met-requires-2 c κs = search needs
 
 enum-known-k : tie.Need-enum-known-k
 enum-known-k c = search needs
+
+at-requires : tie.Need-at-requires
+at-requires c κs = search needs
 
 write-answer-requires : tie.Need-write-answer-requires
 write-answer-requires c κs = search needs
@@ -75,23 +63,19 @@ pub meets-spec : {M : Type 1} → statement M
 meets-spec =
     tie.close
     (tie.spec
-    write-requires
-    write-bytes-requires
-    slice-aggregate-write
-    write-requires-2
-    write-bytes-requires-2
     tree-requires
     shape-requires
     enum-told
     set-with-requires
     judge-requires
     enum-told-2
-    slice-aggregate-write-2
-    write-requires-3
+    slice-aggregate-write-met
+    write-met-requires
     enum-told-3
-    slice-aggregate-write-3
-    write-requires-4
+    slice-aggregate-write-met-2
+    write-met-requires-2
     enum-known-k
+    at-requires
     write-answer-requires
     returns
     returns-2

@@ -5,15 +5,6 @@ use borrow.Author.Needs.{needs}
 use Rattle.vectors.proofs.expressions.set_of.Statement.{statement}
 use Rattle.vectors.proofs.expressions.set_of.Tie as tie
 
-slice-aggregate-write : tie.Need-slice-aggregate-write
-slice-aggregate-write c = search needs
-
-write-requires : tie.Need-write-requires
-write-requires c κs = search needs
-
-write-bytes-requires : tie.Need-write-bytes-requires
-write-bytes-requires c κs = search needs
-
 tree-requires : tie.Need-tree-requires
 tree-requires c κs = search needs
 
@@ -35,6 +26,9 @@ write-set-requires c κs = search needs
 enum-known-checked : tie.Need-enum-known-checked
 enum-known-checked c = search needs
 
+at-requires : tie.Need-at-requires
+at-requires c κs = search needs
+
 write-answer-requires : tie.Need-write-answer-requires
 write-answer-requires c κs = search needs
 
@@ -51,9 +45,6 @@ pub set-of-spec : {M : Type 1} → statement M
 set-of-spec =
     tie.close
     (tie.spec
-    slice-aggregate-write
-    write-requires
-    write-bytes-requires
     tree-requires
     shape-requires
     enum-told
@@ -61,6 +52,7 @@ set-of-spec =
     enum-told-2
     write-set-requires
     enum-known-checked
+    at-requires
     write-answer-requires
     returns
     returns-2

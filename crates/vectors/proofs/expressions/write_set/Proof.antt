@@ -9,16 +9,19 @@ use Rattle.vectors.proofs.expressions.write_set.Statement.{statement}
 use Rattle.vectors.proofs.expressions.write_set.Tie as tie
 
 abbrev Inv-loop : tie.InvT-loop
-Inv-loop set k₀ t5 t6 k = (k ≤ securons) × (length t5 ≡ 1) × (length t6 ≡ 1)
+Inv-loop name set k₀ t6 k = (k ≤ securons) × (length t6 ≡ 1)
 
 abbrev μ-loop : tie.MeasureT-loop
-μ-loop set k₀ t5 t6 k = securons - k
+μ-loop name set k₀ t6 k = securons - k
+
+write-requires : tie.Need-write-requires Inv-loop μ-loop
+write-requires c κs = search needs
 
 slice-aggregate-write : tie.Need-slice-aggregate-write Inv-loop μ-loop
 slice-aggregate-write c = search needs
 
-write-requires : tie.Need-write-requires Inv-loop μ-loop
-write-requires c κs = search needs
+write-requires-2 : tie.Need-write-requires-2 Inv-loop μ-loop
+write-requires-2 c κs = search needs
 
 loop-holds : tie.Need-loop-holds Inv-loop μ-loop
 loop-holds c = search needs
@@ -26,14 +29,8 @@ loop-holds c = search needs
 element-copy-out-if1 : tie.Need-element-copy-out-if1 Inv-loop μ-loop
 element-copy-out-if1 c = omega arith
 
-slice-aggregate-write-2 : tie.Need-slice-aggregate-write-2 Inv-loop μ-loop
-slice-aggregate-write-2 c = search needs
-
-write-requires-2 : tie.Need-write-requires-2 Inv-loop μ-loop
-write-requires-2 c κs = search needs
-
-print-decimal-requires : tie.Need-print-decimal-requires Inv-loop μ-loop
-print-decimal-requires c κs = search needs
+write-number-requires : tie.Need-write-number-requires Inv-loop μ-loop
+write-number-requires c κs = search needs
 
 add-k : tie.Need-add-k Inv-loop μ-loop
 add-k c = omega arith
@@ -44,8 +41,8 @@ loop-less c = omega arith
 loop-again : tie.Need-loop-again Inv-loop μ-loop
 loop-again c = search needs
 
-slice-aggregate-write-3 : tie.Need-slice-aggregate-write-3 Inv-loop μ-loop
-slice-aggregate-write-3 c = search needs
+slice-aggregate-write-2 : tie.Need-slice-aggregate-write-2 Inv-loop μ-loop
+slice-aggregate-write-2 c = search needs
 
 write-requires-3 : tie.Need-write-requires-3 Inv-loop μ-loop
 write-requires-3 c κs = search needs
@@ -59,16 +56,15 @@ write-set-spec =
     (tie.spec
     Inv-loop
     μ-loop
-    slice-aggregate-write
     write-requires
+    slice-aggregate-write
+    write-requires-2
     loop-holds
     element-copy-out-if1
-    slice-aggregate-write-2
-    write-requires-2
-    print-decimal-requires
+    write-number-requires
     add-k
     loop-less
     loop-again
-    slice-aggregate-write-3
+    slice-aggregate-write-2
     write-requires-3
     returns)
