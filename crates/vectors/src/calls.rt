@@ -5,35 +5,51 @@ use crate::output::write_number;
 use answer::Answer;
 use policy::State;
 
-pub fn load(name: &[u8], s: State, image: &[u8]) -> State {
+pub(crate) fn load(name: &[u8], s: State, image: &[u8]) -> State {
     let loaded = image::load(s, image);
     write_answer(name, loaded.answer);
     loaded.state
 }
 
-pub fn begin(name: &[u8], s: State, slot: u8, role: u8) -> State {
+pub(crate) fn begin(name: &[u8], s: State, slot: u8, role: u8) -> State {
     let outcome = gate::begin(s, slot, role);
     write_answer(name, outcome.answer);
     outcome.state
 }
 
-pub fn end(name: &[u8], s: State, slot: u8) -> State {
+pub(crate) fn end(name: &[u8], s: State, slot: u8) -> State {
     let outcome = gate::end(s, slot);
     write_answer(name, outcome.answer);
     outcome.state
 }
 
-pub fn ask(name: &[u8], s: State, slot: u8, file: u8, mode: u8) {
+pub(crate) fn ask(name: &[u8], s: State, slot: u8, file: u8, mode: u8) {
     write_answer(name, gate::ask(s, slot, file, mode));
 }
 
-pub fn change(name: &[u8], s: State, slot: u8, file: u8, mode: u8, t1: &[u8], t2: &[u8]) -> State {
+pub(crate) fn change(
+    name: &[u8],
+    s: State,
+    slot: u8,
+    file: u8,
+    mode: u8,
+    t1: &[u8],
+    t2: &[u8],
+) -> State {
     let outcome = gate::change(s, slot, file, mode, t1, t2);
     write_answer(name, outcome.answer);
     outcome.state
 }
 
-pub fn bypass(name: &[u8], s: State, slot: u8, file: u8, mode: u8, e: &[u8], g: &[u8]) -> State {
+pub(crate) fn bypass(
+    name: &[u8],
+    s: State,
+    slot: u8,
+    file: u8,
+    mode: u8,
+    e: &[u8],
+    g: &[u8],
+) -> State {
     let outcome = gate::bypass(s, slot, file, mode, e, g);
     write_answer(name, outcome.answer);
     outcome.state
@@ -44,7 +60,7 @@ fn number_of(answer: Answer) {
 }
 
 // The numbers of begin, end, ask, change, bypass: first as a well-formed state grants them all, then with a slot number over 15 and all else wrong.
-pub fn five(name: &[u8], s: State) {
+pub(crate) fn five(name: &[u8], s: State) {
     let none = [0u8; 0];
     let wrong = [5u8; 1];
     write(name);

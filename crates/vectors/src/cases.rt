@@ -339,7 +339,7 @@ fn line(s: State, text: &[u8]) -> State {
 }
 
 // Line by line, from the fresh state on.
-pub fn run(input: &[u8]) {
+pub(crate) fn run(input: &[u8]) {
     let mut s = State::fresh();
     let mut from = 0;
     while from < input.len() {

@@ -25,7 +25,7 @@ fn tree() -> Tree {
 }
 
 // Whether bytes are in order: 0 0, or 6 and the place.
-pub fn check(name: &[u8], kind: Kind, b: &[u8]) {
+pub(crate) fn check(name: &[u8], kind: Kind, b: &[u8]) {
     match expression::check(b, kind, 8, Level(2)) {
         Checked::Fine => write_answer(name, Answer::of(answer::DONE)),
         Checked::Wrong(k) => write_answer(name, Answer::at(EXPRESSION_WRONG, k)),
@@ -57,7 +57,7 @@ fn set_with(members: &[u8]) -> SecuronSet {
 }
 
 // SET of a privilege: its members, or 6 and the place.
-pub fn set_of(name: &[u8], b: &[u8]) {
+pub(crate) fn set_of(name: &[u8], b: &[u8]) {
     let t = tree();
     if let Shape::Grown = t.shape() {
         let named = expression::name_set(t, b);
@@ -70,7 +70,7 @@ pub fn set_of(name: &[u8], b: &[u8]) {
 }
 
 // Whether a held set meets a protection: met, not met, or 6 and the place.
-pub fn meets(name: &[u8], part: Mutable, held: &[u8], b: &[u8]) {
+pub(crate) fn meets(name: &[u8], part: Mutable, held: &[u8], b: &[u8]) {
     let t = tree();
     if let Shape::Grown = t.shape() {
         match expression::judge(t, part, set_with(held), b) {

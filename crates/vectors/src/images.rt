@@ -94,7 +94,7 @@ fn longest_wrong_early() {
     fresh_first(b"the longest, its last parent 63", &image, LONGEST_IMAGE);
 }
 
-pub fn run() {
+pub(crate) fn run() {
     longest();
     longest_wrong_late();
     longest_wrong_early();

@@ -2,18 +2,18 @@
 use answer::Answer;
 use libc::STDOUT_FILENO;
 
-pub fn write(words: &[u8]) {
+pub(crate) fn write(words: &[u8]) {
     io::write_all(STDOUT_FILENO, words);
 }
 
 // A number after a space.
-pub fn write_number(number: usize) {
+pub(crate) fn write_number(number: usize) {
     write(b" ");
     io::print_decimal(STDOUT_FILENO, number as u64);
 }
 
 // The case's name, the number and the place. A call without a name writes nothing: it makes a state.
-pub fn write_answer(name: &[u8], answer: Answer) {
+pub(crate) fn write_answer(name: &[u8], answer: Answer) {
     if name.len() == 0 {
         return;
     }

@@ -15,7 +15,7 @@ use securon::SECURONS;
 use tree::Tree;
 
 // The tree of 01's examples, two roles and two files whose expressions are all empty; slot 0 holds role 0.
-pub fn base() -> State {
+pub(crate) fn base() -> State {
     let mut image = [0u8; 81];
     image[0] = b'S';
     image[1] = b'P';
@@ -33,7 +33,7 @@ pub fn base() -> State {
 }
 
 // b at a place of a role.
-pub fn role(mut s: State, role: usize, place: usize, b: &[u8]) -> State {
+pub(crate) fn role(mut s: State, role: usize, place: usize, b: &[u8]) -> State {
     if ROLES <= role {
         return s;
     }
@@ -51,7 +51,7 @@ pub fn role(mut s: State, role: usize, place: usize, b: &[u8]) -> State {
 }
 
 // b at a place of a file.
-pub fn file(mut s: State, file: usize, place: usize, b: &[u8]) -> State {
+pub(crate) fn file(mut s: State, file: usize, place: usize, b: &[u8]) -> State {
     if FILES <= file {
         return s;
     }
@@ -69,7 +69,7 @@ pub fn file(mut s: State, file: usize, place: usize, b: &[u8]) -> State {
 }
 
 // A byte in the room of a role, whatever the lengths say.
-pub fn role_byte(mut s: State, role: usize, at: usize, x: u8) -> State {
+pub(crate) fn role_byte(mut s: State, role: usize, at: usize, x: u8) -> State {
     if ROLES <= role {
         return s;
     }
@@ -86,7 +86,7 @@ pub fn role_byte(mut s: State, role: usize, at: usize, x: u8) -> State {
 }
 
 // A byte in the room of a file.
-pub fn file_byte(mut s: State, file: usize, at: usize, x: u8) -> State {
+pub(crate) fn file_byte(mut s: State, file: usize, at: usize, x: u8) -> State {
     if FILES <= file {
         return s;
     }
@@ -103,7 +103,7 @@ pub fn file_byte(mut s: State, file: usize, at: usize, x: u8) -> State {
 }
 
 // A length of a role, whatever the bytes are.
-pub fn role_length(mut s: State, role: usize, place: usize, x: u8) -> State {
+pub(crate) fn role_length(mut s: State, role: usize, place: usize, x: u8) -> State {
     if ROLES <= role {
         return s;
     }
@@ -120,7 +120,7 @@ pub fn role_length(mut s: State, role: usize, place: usize, x: u8) -> State {
 }
 
 // A length of a file.
-pub fn file_length(mut s: State, file: usize, place: usize, x: u8) -> State {
+pub(crate) fn file_length(mut s: State, file: usize, place: usize, x: u8) -> State {
     if FILES <= file {
         return s;
     }
@@ -137,7 +137,7 @@ pub fn file_length(mut s: State, file: usize, place: usize, x: u8) -> State {
 }
 
 // The length that is stored at a place of file 0.
-pub fn stored_length(s: State, place: usize) -> u8 {
+pub(crate) fn stored_length(s: State, place: usize) -> u8 {
     if FILE_PLACES <= place {
         return 0;
     }
@@ -148,7 +148,7 @@ pub fn stored_length(s: State, place: usize) -> u8 {
 }
 
 // Another count of securons.
-pub fn securons(mut s: State, n: usize) -> State {
+pub(crate) fn securons(mut s: State, n: usize) -> State {
     let t = s.tree;
     let parent = t.parent;
     let tree = Tree { n, parent };
@@ -157,7 +157,7 @@ pub fn securons(mut s: State, n: usize) -> State {
 }
 
 // Another parent.
-pub fn parent(mut s: State, u: usize, x: u8) -> State {
+pub(crate) fn parent(mut s: State, u: usize, x: u8) -> State {
     if SECURONS <= u {
         return s;
     }
@@ -171,7 +171,7 @@ pub fn parent(mut s: State, u: usize, x: u8) -> State {
 }
 
 // A slot that holds a role.
-pub fn hold(s: State, slot: usize, role: u8) -> State {
+pub(crate) fn hold(s: State, slot: usize, role: u8) -> State {
     if SLOTS <= slot {
         return s;
     }
@@ -179,7 +179,7 @@ pub fn hold(s: State, slot: usize, role: u8) -> State {
 }
 
 // Other counts of roles and of files.
-pub fn counts(mut s: State, nroles: usize, nfiles: usize) -> State {
+pub(crate) fn counts(mut s: State, nroles: usize, nfiles: usize) -> State {
     s.nroles = nroles;
     s.nfiles = nfiles;
     s
