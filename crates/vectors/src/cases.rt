@@ -5,7 +5,6 @@ use crate::output::write_answer;
 use crate::policies;
 use answer::Answer;
 use expression::Kind;
-use expression::LONGEST;
 use expression::Mutable;
 use policy::State;
 ghost use Prim.Native.Nat.{_≤_, _<_};
@@ -48,14 +47,6 @@ const BASE: u32 = 0x626173;
 const ROLE: u32 = 0x726f6c;
 
 const FILE: u32 = 0x66696c;
-
-const RBYTE: u32 = 0x726279;
-
-const FBYTE: u32 = 0x666279;
-
-const RLENGTH: u32 = 0x726c65;
-
-const FLENGTH: u32 = 0x666c65;
 
 const SECURONS: u32 = 0x736563;
 
@@ -248,10 +239,10 @@ fn altered(s: State, key: u32, args: &[u8]) -> State {
         return policies::base();
     }
     if key == ROLE {
-        return policies::role(s, i, k, rest(args, 2));
+        return policies::role(s, i, k, arg(args, 2), rest(args, 3));
     }
     if key == FILE {
-        return policies::file(s, i, k, rest(args, 2));
+        return policies::file(s, i, k, arg(args, 2), rest(args, 3));
     }
     if key == SECURONS {
         return policies::securons(s, i);
@@ -264,26 +255,6 @@ fn altered(s: State, key: u32, args: &[u8]) -> State {
     }
     if key == HOLD {
         return policies::hold(s, i, arg(args, 1));
-    }
-    s
-}
-
-// A length of a role or a file, or a byte of its room: that of place k, j on from its first.
-fn damaged(s: State, key: u32, args: &[u8]) -> State {
-    let i = arg_wide(args, 0);
-    let k = arg_wide(args, 1);
-    let at = LONGEST * k + arg_wide(args, 2);
-    if key == RLENGTH {
-        return policies::role_length(s, i, k, arg(args, 2));
-    }
-    if key == FLENGTH {
-        return policies::file_length(s, i, k, arg(args, 2));
-    }
-    if key == RBYTE {
-        return policies::role_byte(s, i, at, arg(args, 3));
-    }
-    if key == FBYTE {
-        return policies::file_byte(s, i, at, arg(args, 3));
     }
     s
 }
@@ -312,8 +283,7 @@ fn perform(s: State, name: &[u8], key: u32, args: &[u8]) -> State {
     on_expression(name, key, args);
     looked(s, name, key, args);
     let after = request(s, name, key, args);
-    let state = altered(after, key, args);
-    damaged(state, key, args)
+    altered(after, key, args)
 }
 
 fn call(s: State, name: &[u8], words: &[u8]) -> State {

@@ -1,11 +1,9 @@
 // Small states to make requests on, and parts of them altered: also to what is not well formed.
 use expression::LONGEST;
-use policy::FILE_BYTES;
 use policy::FILE_PLACES;
 use policy::FILES;
 use policy::File;
 use policy::Hold;
-use policy::ROLE_BYTES;
 use policy::ROLE_PLACES;
 use policy::ROLES;
 use policy::Role;
@@ -32,8 +30,8 @@ pub(crate) fn base() -> State {
     gate::begin(s, 0, 0).state
 }
 
-// b at a place of a role.
-pub(crate) fn role(mut s: State, role: usize, place: usize, b: &[u8]) -> State {
+// A length and bytes at a place of a role, and zero past them: in order or not, as many as the length says or not.
+pub(crate) fn role(mut s: State, role: usize, place: usize, m: u8, b: &[u8]) -> State {
     if ROLES <= role {
         return s;
     }
@@ -45,13 +43,16 @@ pub(crate) fn role(mut s: State, role: usize, place: usize, b: &[u8]) -> State {
     }
     let roles = s.roles;
     let old = roles[role];
-    let next = old.put(place, b);
-    s.roles[role] = next;
+    let put = old.put(place, b);
+    let mut lens = put.lens;
+    let bytes = put.bytes;
+    lens[place] = m;
+    s.roles[role] = Role { lens, bytes };
     s
 }
 
-// b at a place of a file.
-pub(crate) fn file(mut s: State, file: usize, place: usize, b: &[u8]) -> State {
+// The same at a place of a file.
+pub(crate) fn file(mut s: State, file: usize, place: usize, m: u8, b: &[u8]) -> State {
     if FILES <= file {
         return s;
     }
@@ -63,75 +64,10 @@ pub(crate) fn file(mut s: State, file: usize, place: usize, b: &[u8]) -> State {
     }
     let files = s.files;
     let old = files[file];
-    let next = old.put(place, b);
-    s.files[file] = next;
-    s
-}
-
-// A byte in the room of a role, whatever the lengths say.
-pub(crate) fn role_byte(mut s: State, role: usize, at: usize, x: u8) -> State {
-    if ROLES <= role {
-        return s;
-    }
-    if ROLE_BYTES <= at {
-        return s;
-    }
-    let roles = s.roles;
-    let old = roles[role];
-    let lens = old.lens;
-    let mut bytes = old.bytes;
-    bytes[at] = x;
-    s.roles[role] = Role { lens, bytes };
-    s
-}
-
-// A byte in the room of a file.
-pub(crate) fn file_byte(mut s: State, file: usize, at: usize, x: u8) -> State {
-    if FILES <= file {
-        return s;
-    }
-    if FILE_BYTES <= at {
-        return s;
-    }
-    let files = s.files;
-    let old = files[file];
-    let lens = old.lens;
-    let mut bytes = old.bytes;
-    bytes[at] = x;
-    s.files[file] = File { lens, bytes };
-    s
-}
-
-// A length of a role, whatever the bytes are.
-pub(crate) fn role_length(mut s: State, role: usize, place: usize, x: u8) -> State {
-    if ROLES <= role {
-        return s;
-    }
-    if ROLE_PLACES <= place {
-        return s;
-    }
-    let roles = s.roles;
-    let old = roles[role];
-    let mut lens = old.lens;
-    let bytes = old.bytes;
-    lens[place] = x;
-    s.roles[role] = Role { lens, bytes };
-    s
-}
-
-// A length of a file.
-pub(crate) fn file_length(mut s: State, file: usize, place: usize, x: u8) -> State {
-    if FILES <= file {
-        return s;
-    }
-    if FILE_PLACES <= place {
-        return s;
-    }
-    let files = s.files;
-    let old = files[file];
-    let mut lens = old.lens;
-    let bytes = old.bytes;
-    lens[place] = x;
+    let put = old.put(place, b);
+    let mut lens = put.lens;
+    let bytes = put.bytes;
+    lens[place] = m;
     s.files[file] = File { lens, bytes };
     s
 }
