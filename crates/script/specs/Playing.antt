@@ -1,15 +1,17 @@
 -- What the functions that play a record promise. Definitions only.
 use mathlib.Core.Path.{_≡_}
 use mathlib.Core.Bool.{Bool, true, false}
-use mathlib.Core.List.{List, []}
+use mathlib.Core.List.{List, [], _++_}
 use Prim.Native.Nat.{ℕ, _<_, _≤_}
 use lib.ListN.{length, drop}
 use Rattle.answer.specs.declared.Answer.{Answer}
 use Rattle.policy.specs.declared.State.{State}
 use Rattle.claims.specs.Trace.{Request, Step}
+use Rattle.lines.specs.Lines.{Line}
+use Rattle.script.specs.declared.Told.{Told}
 use Rattle.script.specs.declared.Next.{Next}
 use Rattle.script.specs.declared.Next.the-variants.{Ended, Cut, Whole}
-use Rattle.script.specs.Script.{Reads}
+use Rattle.script.specs.Script.{Reads, cutLine, Plays, Filled}
 use Rattle.script.specs.Records.{NoRecord, secondAt, endAt, Stored}
 
 -- where the two expressions of a record 04 or 05 stand, or that they are not all there
@@ -24,3 +26,23 @@ abbrev pub NextIs : State → List ℕ → Answer → State → Next → Type 0
 NextIs s bs a t Ended = bs ≡ []
 NextIs s bs a t Cut = (bs ≡ [] → ⊥) × NoRecord bs
 NextIs s bs a t (Whole n) = (q : Request) × Reads bs q (drop n bs) × Step s q a t × (0 < n) × (n ≤ length bs)
+
+-- w was written after what an output holds already, whatever that is
+abbrev pub Puts : List ℕ → List ℕ → ℕ → List ℕ → ℕ → Type 0
+Puts w before n after r = (first held : List ℕ) → Filled held first before n → Filled (held ++ w) first after r
+
+-- the line of a was
+abbrev pub PutsLine : Answer → List ℕ → ℕ → List ℕ → ℕ → Type 0
+PutsLine a before n after r = (line : List ℕ) × Line a [] line × Puts line before n after r
+
+-- what is printed of the next record, how many bytes it has, and whether the run goes on
+abbrev pub Tells : Next → Answer → List ℕ → ℕ → List ℕ → Told → Type 0
+Tells Ended a before n after r = (r .more ≡ false) × Puts [] before n after (r .n)
+Tells Cut a before n after r = (r .more ≡ false) × Puts cutLine before n after (r .n)
+Tells (Whole k) a before n after r = (r .more ≡ true) × (r .used ≡ k) × PutsLine a before n after (r .n)
+
+-- from the state s these bytes were played, and what they print was written after what an output holds already
+pub record PlayedOn (s : State) (bytes before : List ℕ) (n : ℕ) (after : List ℕ) (r : ℕ) : Type 0 where
+  pub printed : List ℕ
+  pub plays : Plays s bytes printed
+  pub put : Puts printed before n after r

@@ -3,10 +3,12 @@ use answer::Answer;
 use policy::State;
 ghost use mathlib.Core.Path.{_≡_};
 ghost use mathlib.Core.Bool.{Bool, true, false};
-ghost use mathlib.Core.List.{List, []};
-ghost use Prim.Native.Nat.{ℕ, _+_, _<_, _≤_};
-ghost use lib.ListN.{length, getD};
-ghost use Rattle.script.specs.Playing.{Bounded, NextIs};
+ghost use mathlib.Core.List.{List, [], _∷_};
+ghost use Prim.Native.Nat.{ℕ, _+_, _<_, _≤_, min};
+ghost use lib.ListN.{length, getD, drop};
+ghost use Rattle.image.specs.Image.{lowFirst};
+ghost use Rattle.script.specs.Script.{Replays};
+ghost use Rattle.script.specs.Playing.{Bounded, NextIs, Puts, PutsLine, Tells, PlayedOn};
 
 // The codes of the records.
 pub const BEGIN: u8 = 1;
@@ -31,6 +33,13 @@ pub struct Played {
     pub next: Next,
     pub answer: Answer,
     pub state: State,
+}
+
+// What was printed of a record: how full the output is, how many bytes the record has, and whether the run goes on.
+struct Told {
+    n: usize,
+    used: usize,
+    more: bool,
 }
 
 // Where the two expressions of a record 04 or 05 stand, if they are all there: the place of the second length byte, and the end.
@@ -218,4 +227,119 @@ pub fn play(s: State, rest: &[u8]) -> Played
         return play_bypass(s, rest);
     }
     uncalled(Next::Cut, s)
+}
+
+// x after what the output holds, where it fits. One more than the room stands for all that does not fit.
+fn put(out: &mut [u8], n: usize, x: u8) -> usize
+    ensures { λ r. ⌜ Puts (x ∷ []) (now (out .entry)) n (now (out .exit)) r ⌝ }
+{
+    if n < out.len() {
+        out[n] = x;
+        return n + 1;
+    }
+    if n == out.len() {
+        return n + 1;
+    }
+    n
+}
+
+// The bytes w after what the output holds, as far as they fit.
+fn put_all(out: &mut [u8], n: usize, w: &[u8]) -> usize
+    ensures { λ r. ⌜ Puts (now (w .entry)) (now (out .entry)) n (now (out .exit)) r ⌝ }
+{
+    let mut k = n;
+    let mut i = 0;
+    while i < w.len() {
+        k = put(out, k, w[i]);
+        i += 1;
+    }
+    k
+}
+
+// The line of an answer after what the output holds.
+fn put_line(out: &mut [u8], n: usize, a: Answer) -> usize
+    ensures { λ r. ⌜ PutsLine a (now (out .entry)) n (now (out .exit)) r ⌝ }
+{
+    let mut line = [0u8; lines::PRINTED];
+    let long = lines::print(a, [0u8; 48], 0, &mut line);
+    put_all(out, n, &line[..long])
+}
+
+// What is printed of the next record: its answer's line, or `cut`, or nothing.
+fn tell(out: &mut [u8], n: usize, next: Next, a: Answer) -> Told
+    ensures { λ r. ⌜ Tells next a (now (out .entry)) n (now (out .exit)) r ⌝ }
+{
+    match next {
+        Next::Ended => Told {
+            n,
+            used: 0,
+            more: false,
+        },
+        Next::Cut => Told {
+            n: put_all(out, n, b"cut\n"),
+            used: 0,
+            more: false,
+        },
+        Next::Whole(k) => Told {
+            n: put_line(out, n, a),
+            used: k,
+            more: true,
+        },
+    }
+}
+
+// The records of the input from a place on, one after another, each on the state that the one before it left.
+fn play_all(state: State, input: &[u8], from: usize, out: &mut [u8], n: usize) -> usize
+    requires { ⌜ from ≤ length (now input) ⌝ }
+    ensures { λ r. ⌜ PlayedOn state (drop from (now (input .entry))) (now (out .entry)) n (now (out .exit)) r ⌝ }
+{
+    let mut s = state;
+    let mut at = from;
+    let mut k = n;
+    loop {
+        let played = play(s, &input[at..]);
+        let next = played.next;
+        let answer = played.answer;
+        let told = tell(out, k, next, answer);
+        k = told.n;
+        if !told.more {
+            return k;
+        }
+        at += told.used;
+        let left = played.state;
+        s = left;
+    }
+}
+
+// A number of 16 bits, low byte first.
+fn low_first(low: u8, high: u8) -> usize
+    ensures { λ r. ⌜ r ≡ lowFirst low high ⌝ }
+{
+    low as usize + 256 * (high as usize)
+}
+
+// The smaller of two.
+fn fewer(a: usize, b: usize) -> usize
+    ensures { λ r. ⌜ r ≡ min a b ⌝ }
+{
+    if a < b { a } else { b }
+}
+
+// A whole replay input, from the fresh state, into an output: how much is printed, or one more than the room where it does not fit.
+pub fn run(input: &[u8], out: &mut [u8]) -> usize
+    ensures { λ r. ⌜ Replays (now (input .entry)) (now (out .entry)) (now (out .exit)) r ⌝ }
+{
+    if input.len() < 2 {
+        return put_all(out, 0, b"cut\n");
+    }
+    let stated = low_first(input[0], input[1]);
+    let have = fewer(stated, input.len() - 2);
+    let end = 2 + have;
+    let loaded = image::load(State::fresh(), &input[2..end]);
+    let n = put_line(out, 0, loaded.answer);
+    if have < stated {
+        return n;
+    }
+    let state = loaded.state;
+    play_all(state, input, end, out, n)
 }
