@@ -3,3 +3,4 @@ pub mod Records
 pub mod Playing
 pub mod PlayLaws
 pub mod FillLaws
+pub mod Laws

@@ -118,13 +118,17 @@ pub record Stored (bs : List ℕ) : Type 0 where
   pub second : secondAt bs < length bs
   pub all : endAt bs ≤ length bs
 
+-- the length byte of the second expression
+pub second-length : (c slot file mode : ℕ) (x y rest bs : List ℕ) → bs ≡ c ∷ slot ∷ file ∷ mode ∷ (expressionBytes x ++ (expressionBytes y ++ rest)) → getD bs (secondAt bs) 0 ≡ length y
+second-length c slot file mode x y rest bs e =
+    ap (λ (k : ℕ). getD bs (5 + k) 0) (ap (λ (l : List ℕ). getD l 4 0) e)
+    ∙ sym (getD-drop 5 bs (length x) 0) ∙ ap (λ (l : List ℕ). getD (drop 5 l) (length x) 0) e ∙ getD-append-seam x (length y) (y ++ rest) 0
+
 stored : (c slot file mode : ℕ) (x y rest bs : List ℕ) → bs ≡ c ∷ slot ∷ file ∷ mode ∷ (expressionBytes x ++ (expressionBytes y ++ rest)) → Stored bs
 stored c slot file mode x y rest bs e =
     let n : length bs ≡ 6 + length x + length y + length rest = ap length e ∙ simp (length-append) (omega arith) in
     let a : getD bs 4 0 ≡ length x = ap (λ (l : List ℕ). getD l 4 0) e in
-    let b : getD bs (5 + length x) 0 ≡ length y =
-    sym (getD-drop 5 bs (length x) 0) ∙ ap (λ (l : List ℕ). getD (drop 5 l) (length x) 0) e ∙ getD-append-seam x (length y) (y ++ rest) 0 in
-    let d : getD bs (secondAt bs) 0 ≡ length y = ap (λ (k : ℕ). getD bs (5 + k) 0) a ∙ b in
+    let d : getD bs (secondAt bs) 0 ≡ length y = second-length c slot file mode x y rest bs e in
     record { first = omega arith; second = omega arith; all = omega arith }
 
 pub stored-cut : (bs : List ℕ) → 3 < getD bs 0 0 → (Stored bs → ⊥) → NoRecord bs
