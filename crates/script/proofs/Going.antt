@@ -12,7 +12,7 @@ use Rattle.script.specs.declared.Next.{Next}
 use Rattle.script.specs.declared.Next.the-variants.{Ended, Cut, Whole}
 use Rattle.script.specs.declared.Told.{Told}
 use Rattle.script.specs.Script.{Plays, ended, called, cut, cutLine}
-use Rattle.script.specs.Playing.{NextIs, Puts, Tells, PlayedOn}
+use Rattle.script.specs.Playing.{NextIs, Puts, ToldIs, PlayedOn}
 use Rattle.script.specs.FillLaws.{puts-none, puts-both}
 
 pub record Going (s₀ : State) (input : List ℕ) (from : ℕ) (first : List ℕ) (n : ℕ) (s : State) (at : ℕ) (before : List ℕ) (k : ℕ) : Type 0 where
@@ -34,12 +34,12 @@ module _ (s₀ : State) (input : List ℕ) (from : ℕ) (first : List ℕ) (n : 
     ends-with : (w : List ℕ) → Plays s (drop at input) w → Puts w before k after (r .n) → PlayedOn s₀ (drop from input) first n after (r .n)
     ends-with w p q = record { printed = g .printed ++ w; plays = g .on w p; put = puts-both (g .printed) w first before after n k (r .n) (g .put) q }
 
-    last : (next : Next) → NextIs s (drop at input) a t next → Tells next a before k after r → r .more ≡ false → PlayedOn s₀ (drop from input) first n after (r .n)
+    last : (next : Next) → NextIs s (drop at input) a t next → ToldIs next a before k after r → r .more ≡ false → PlayedOn s₀ (drop from input) first n after (r .n)
     last Ended e p m = ends-with [] (subst (λ (l : List ℕ). Plays s l []) (sym e) ended) (p .1)
     last Cut e p m = ends-with cutLine (cut (e .0) (e .1)) (p .1)
     last (Whole j) e p m = absurd (true≢false (sym (p .0) ∙ m))
 
-    goes-on : (next : Next) → NextIs s (drop at input) a t next → Tells next a before k after r → r .more ≡ true → length after ≡ length before → (0 < r .used) × Going s₀ input from first n t (at + r .used) after (r .n)
+    goes-on : (next : Next) → NextIs s (drop at input) a t next → ToldIs next a before k after r → r .more ≡ true → length after ≡ length before → (0 < r .used) × Going s₀ input from first n t (at + r .used) after (r .n)
     goes-on Ended e p m h = absurd (false≢true (sym (p .0) ∙ m))
     goes-on Cut e p m h = absurd (false≢true (sym (p .0) ∙ m))
     goes-on (Whole j) e p m h =
@@ -56,8 +56,8 @@ module _ (s₀ : State) (input : List ℕ) (from : ℕ) (first : List ℕ) (n : 
           },
         )
 
-    pub stops : (next : Next) → NextIs s (take (length input - at) (drop at input)) a t next → Tells next a before k after r → r .more ≡ false → PlayedOn s₀ (drop from input) first n after (r .n)
+    pub stops : (next : Next) → NextIs s (take (length input - at) (drop at input)) a t next → ToldIs next a before k after r → r .more ≡ false → PlayedOn s₀ (drop from input) first n after (r .n)
     stops next e = last next (subst (λ (b : List ℕ). NextIs s b a t next) bytes-left e)
 
-    pub goes : (next : Next) → NextIs s (take (length input - at) (drop at input)) a t next → Tells next a before k after r → r .more ≡ true → length after ≡ length before → (0 < r .used) × Going s₀ input from first n t (at + r .used) after (r .n)
+    pub goes : (next : Next) → NextIs s (take (length input - at) (drop at input)) a t next → ToldIs next a before k after r → r .more ≡ true → length after ≡ length before → (0 < r .used) × Going s₀ input from first n t (at + r .used) after (r .n)
     goes next e = goes-on next (subst (λ (b : List ℕ). NextIs s b a t next) bytes-left e)

@@ -12,7 +12,7 @@ use Rattle.lines.specs.Lines.{Fills}
 use Rattle.script.specs.declared.Next.{Next}
 use Rattle.script.specs.declared.Told.{Told}
 use Rattle.script.specs.Script.{over, Filled}
-use Rattle.script.specs.Playing.{Puts, PutsLine, Tells}
+use Rattle.script.specs.Playing.{Puts, PutsLine, ToldIs}
 
 -- ---- one byte
 length-over : (w before : List ℕ) → length (over w before) ≡ length before
@@ -97,5 +97,5 @@ puts-line a apart printed before after long n r f p =
     (f .line, f .is-line, subst (λ (l : List ℕ). Puts l before n after r) (ap (take long) (f .filled) ∙ take-at (f .line) (drop long apart) long (sym (f .count))) p)
 
 -- what is told of a record is told by its kind
-pub tells-as : (next x : Next) (a : Answer) (before : List ℕ) (n : ℕ) (after : List ℕ) (r : Told) → next ≡ x → Tells x a before n after r → Tells next a before n after r
-tells-as next x a before n after r e p = subst (λ (y : Next). Tells y a before n after r) (sym e) p
+pub told-as : (next x : Next) (a : Answer) (before : List ℕ) (n : ℕ) (after : List ℕ) (r : Told) → next ≡ x → ToldIs x a before n after r → ToldIs next a before n after r
+told-as next x a before n after r e p = subst (λ (y : Next). ToldIs y a before n after r) (sym e) p

@@ -18,7 +18,7 @@ use Rattle.claims.specs.Demand1.{Same, one-answer-and-one-state}
 use Rattle.lines.specs.Lines.{Line}
 use Rattle.lines.specs.Laws.{one-line}
 use Rattle.script.specs.Script.{Reads, a-begin, an-end, an-ask, a-change, a-bypass, Plays, ended, called, cut, Loaded, Prints, stated, imageIn, over, Filled, Replays}
-use Rattle.script.specs.Records.{secondAt, endAt, firstOf, secondOf, second-length}
+use Rattle.script.specs.Records.{secondAt, endAt, firstOf, secondOf, storeIn, second-length}
 
 -- ---- one record
 -- the request that the bytes have, and what is left after it, by their code
@@ -27,7 +27,7 @@ requestIn code bs =
     cond (eqb code 1) (begin (getD bs 1 0) (getD bs 2 0))
     (cond (eqb code 2) (end (getD bs 1 0))
     (cond (eqb code 3) (ask (getD bs 1 0) (getD bs 2 0) (getD bs 3 0))
-    (cond (eqb code 4) (change (getD bs 1 0) (getD bs 2 0) (getD bs 3 0) (firstOf bs) (secondOf bs)) (bypass (getD bs 1 0) (getD bs 2 0) (getD bs 3 0) (firstOf bs) (secondOf bs)))))
+    (storeIn code bs)))
 
 abbrev restIn : ℕ → List ℕ → List ℕ
 restIn code bs = cond (eqb code 1) (drop 3 bs) (cond (eqb code 2) (drop 2 bs) (cond (eqb code 3) (drop 4 bs) (drop (endAt bs) bs)))

@@ -36,10 +36,10 @@ abbrev pub PutsLine : Answer → List ℕ → ℕ → List ℕ → ℕ → Type 
 PutsLine a before n after r = (line : List ℕ) × Line a [] line × Puts line before n after r
 
 -- what is printed of the next record, how many bytes it has, and whether the run goes on
-abbrev pub Tells : Next → Answer → List ℕ → ℕ → List ℕ → Told → Type 0
-Tells Ended a before n after r = (r .more ≡ false) × Puts [] before n after (r .n)
-Tells Cut a before n after r = (r .more ≡ false) × Puts cutLine before n after (r .n)
-Tells (Whole k) a before n after r = (r .more ≡ true) × (r .used ≡ k) × PutsLine a before n after (r .n)
+abbrev pub ToldIs : Next → Answer → List ℕ → ℕ → List ℕ → Told → Type 0
+ToldIs Ended a before n after r = (r .more ≡ false) × Puts [] before n after (r .n)
+ToldIs Cut a before n after r = (r .more ≡ false) × Puts cutLine before n after (r .n)
+ToldIs (Whole k) a before n after r = (r .more ≡ true) × (r .used ≡ k) × PutsLine a before n after (r .n)
 
 -- from the state s these bytes were played, and what they print was written after what an output holds already
 pub record PlayedOn (s : State) (bytes before : List ℕ) (n : ℕ) (after : List ℕ) (r : ℕ) : Type 0 where

@@ -7,8 +7,10 @@ ghost use mathlib.Core.List.{List, [], _∷_};
 ghost use Prim.Native.Nat.{ℕ, _+_, _<_, _≤_, min};
 ghost use lib.ListN.{length, getD, drop};
 ghost use Rattle.image.specs.Image.{lowFirst};
+ghost use Rattle.claims.specs.Trace.{Step};
 ghost use Rattle.script.specs.Script.{Replays};
-ghost use Rattle.script.specs.Playing.{Bounded, NextIs, Puts, PutsLine, Tells, PlayedOn};
+ghost use Rattle.script.specs.Records.{storeOf};
+ghost use Rattle.script.specs.Playing.{Bounded, NextIs, Puts, PutsLine, ToldIs, PlayedOn};
 
 // The codes of the records.
 pub const BEGIN: u8 = 1;
@@ -145,38 +147,19 @@ fn play_ask(s: State, rest: &[u8]) -> Played
     }
 }
 
-// 04 slot file mode, length byte and bytes, twice.
-fn play_change(s: State, rest: &[u8]) -> Played
-    requires { ⌜ (0 < length (now rest)) × (getD (now rest) 0 0 ≡ 4) ⌝ }
-    ensures { λ r. ⌜ NextIs s (now (rest .entry)) (r .answer) (r .state) (r .next) ⌝ }
+// change or bypass, by the code.
+fn store(s: State, code: u8, slot: u8, file: u8, mode: u8, x: &[u8], y: &[u8]) -> gate::Outcome
+    ensures { λ r. ⌜ Step s (storeOf code slot file mode (now (x .entry)) (now (y .entry))) (r .answer) (r .state) ⌝ }
 {
-    let found = bounds_in(rest);
-    if !found.whole {
-        return uncalled(Next::Cut, s);
+    if code == CHANGE {
+        return gate::change(s, slot, file, mode, x, y);
     }
-    let mid = found.mid;
-    let from = mid + 1;
-    let end = found.end;
-    let done = gate::change(
-        s,
-        rest[1],
-        rest[2],
-        rest[3],
-        &rest[5..mid],
-        &rest[from..end],
-    );
-    let answer = done.answer;
-    let state = done.state;
-    Played {
-        next: Next::Whole(end),
-        answer,
-        state,
-    }
+    gate::bypass(s, slot, file, mode, x, y)
 }
 
-// 05 slot file mode, length byte and bytes, twice.
-fn play_bypass(s: State, rest: &[u8]) -> Played
-    requires { ⌜ (0 < length (now rest)) × (getD (now rest) 0 0 ≡ 5) ⌝ }
+// 04 or 05 slot file mode, length byte and bytes, twice.
+fn play_store(s: State, rest: &[u8]) -> Played
+    requires { ⌜ (0 < length (now rest)) × (3 < getD (now rest) 0 0) × (getD (now rest) 0 0 < 6) ⌝ }
     ensures { λ r. ⌜ NextIs s (now (rest .entry)) (r .answer) (r .state) (r .next) ⌝ }
 {
     let found = bounds_in(rest);
@@ -186,8 +169,9 @@ fn play_bypass(s: State, rest: &[u8]) -> Played
     let mid = found.mid;
     let from = mid + 1;
     let end = found.end;
-    let done = gate::bypass(
+    let done = store(
         s,
+        rest[0],
         rest[1],
         rest[2],
         rest[3],
@@ -220,11 +204,8 @@ pub fn play(s: State, rest: &[u8]) -> Played
     if code == ASK {
         return play_ask(s, rest);
     }
-    if code == CHANGE {
-        return play_change(s, rest);
-    }
-    if code == BYPASS {
-        return play_bypass(s, rest);
+    if code == CHANGE || code == BYPASS {
+        return play_store(s, rest);
     }
     uncalled(Next::Cut, s)
 }
@@ -267,7 +248,7 @@ fn put_line(out: &mut [u8], n: usize, a: Answer) -> usize
 
 // What is printed of the next record: its answer's line, or `cut`, or nothing.
 fn tell(out: &mut [u8], n: usize, next: Next, a: Answer) -> Told
-    ensures { λ r. ⌜ Tells next a (now (out .entry)) n (now (out .exit)) r ⌝ }
+    ensures { λ r. ⌜ ToldIs next a (now (out .entry)) n (now (out .exit)) r ⌝ }
 {
     match next {
         Next::Ended => Told {
