@@ -129,13 +129,6 @@ fn run(state: State) {
     }
 }
 
-// A number of 16 bits, low byte first.
-fn low_first(low: u8, high: u8) -> usize
-    ensures { λ r. ⌜ r < 65536 ⌝ }
-{
-    low as usize + 256 * (high as usize)
-}
-
 fn main() {
     let mut two = [0u8; 2];
     let got = io::read_full(STDIN_FILENO, &mut two);
@@ -143,7 +136,7 @@ fn main() {
         io::write_all(STDOUT_FILENO, b"cut\n");
         return;
     }
-    let stated = low_first(two[0], two[1]);
+    let stated = script::stated_length(two[0], two[1]);
     let mut bytes = io::large_buffer();
     let have = io::read_full(STDIN_FILENO, &mut bytes[..stated]);
     let loaded = image::load(State::fresh(), &bytes[..have]);

@@ -292,9 +292,9 @@ fn play_all(state: State, input: &[u8], from: usize, out: &mut [u8], n: usize) -
     }
 }
 
-// A number of 16 bits, low byte first.
-fn low_first(low: u8, high: u8) -> usize
-    ensures { λ r. ⌜ r ≡ lowFirst low high ⌝ }
+// The stated length of an image, low byte first.
+pub fn stated_length(low: u8, high: u8) -> usize
+    ensures { λ r. ⌜ (r ≡ lowFirst low high) × (r < 65536) ⌝ }
 {
     low as usize + 256 * (high as usize)
 }
@@ -313,7 +313,7 @@ pub fn run(input: &[u8], out: &mut [u8]) -> usize
     if input.len() < 2 {
         return put_all(out, 0, b"cut\n");
     }
-    let stated = low_first(input[0], input[1]);
+    let stated = stated_length(input[0], input[1]);
     let have = fewer(stated, input.len() - 2);
     let end = 2 + have;
     let loaded = image::load(State::fresh(), &input[2..end]);

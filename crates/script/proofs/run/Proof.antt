@@ -21,14 +21,14 @@ same-length c = search needs
 returns : tie.Need-returns
 returns c = only-cut _ _ _ _ (c .before .before .before .before .before .if1 .taken) (c .before .before .put-all .ensures)
 
-shared-slice-read-low-first : tie.Need-shared-slice-read-low-first
-shared-slice-read-low-first c = search needs
+shared-slice-read-stated-length : tie.Need-shared-slice-read-stated-length
+shared-slice-read-stated-length c = search needs
 
-shared-slice-read-low-first-2 : tie.Need-shared-slice-read-low-first-2
-shared-slice-read-low-first-2 c = search needs
+shared-slice-read-stated-length-2 : tie.Need-shared-slice-read-stated-length-2
+shared-slice-read-stated-length-2 c = search needs
 
-low-first-requires : tie.Need-low-first-requires
-low-first-requires c κs = search needs
+stated-length-requires : tie.Need-stated-length-requires
+stated-length-requires c κs = search needs
 
 sub-fewer : tie.Need-sub-fewer
 sub-fewer c = search needs
@@ -61,7 +61,7 @@ same-length-2 : tie.Need-same-length-2
 same-length-2 c = search needs
 
 returns-2 : tie.Need-returns-2
-returns-2 c = let i = c .before .before .before .before .before .before .before .before .before .before .before .before .before .before .before .args .input .now in let f = c .before .before .before .before .before .before .before .before .fewer .ensures in let w = c .before .before .before .before .before .before .before .before .before .low-first .ensures in let e : c .before .before .before .before .before .before .before .before .fewer .result ≡ min (stated i) (length i - 2) = f ∙ ap (λ (x : ℕ). min x (length i - 2)) w in image-short i (omega (arith, c .before .before .before .before .before .before .before .before .before .before .before .before .if1 .left)) (2 + c .before .before .before .before .before .before .before .before .fewer .result) (ap (λ (x : ℕ). 2 + x) e) (c .before .before .before .before .before .before .before .fresh .result) (c .before .before .before .before .before .before .before .fresh .ensures) (c .before .before .before .before .before .load .result) (c .before .before .before .before .before .load .ensures) _ _ _ (c .before .before .before .put-line .ensures) (omega (arith, c .if2 .taken, c .before .before .before .before .before .before .before .before .before .low-first .ensures))
+returns-2 c = let i = c .before .before .before .before .before .before .before .before .before .before .before .before .before .before .before .args .input .now in let f = c .before .before .before .before .before .before .before .before .fewer .ensures in let w = c .before .before .before .before .before .before .before .before .before .stated-length .ensures .0 in let e : c .before .before .before .before .before .before .before .before .fewer .result ≡ min (stated i) (length i - 2) = f ∙ ap (λ (x : ℕ). min x (length i - 2)) w in image-short i (omega (arith, c .before .before .before .before .before .before .before .before .before .before .before .before .if1 .left)) (2 + c .before .before .before .before .before .before .before .before .fewer .result) (ap (λ (x : ℕ). 2 + x) e) (c .before .before .before .before .before .before .before .fresh .result) (c .before .before .before .before .before .before .before .fresh .ensures) (c .before .before .before .before .before .load .result) (c .before .before .before .before .before .load .ensures) _ _ _ (c .before .before .before .put-line .ensures) (omega (arith, c .if2 .taken, c .before .before .before .before .before .before .before .before .before .stated-length .ensures .0))
 
 play-all-requires : tie.Need-play-all-requires
 play-all-requires c κs = search needs
@@ -70,7 +70,7 @@ same-length-3 : tie.Need-same-length-3
 same-length-3 c = search needs
 
 returns-3 : tie.Need-returns-3
-returns-3 c = let i = c .before .before .before .before .before .before .before .before .before .before .before .before .before .before .before .before .before .before .before .before .args .input .now in let f = c .before .before .before .before .before .before .before .before .before .before .before .before .before .fewer .ensures in let w = c .before .before .before .before .before .before .before .before .before .before .before .before .before .before .low-first .ensures in let e : c .before .before .before .before .before .before .before .before .before .before .before .before .before .fewer .result ≡ min (stated i) (length i - 2) = f ∙ ap (λ (x : ℕ). min x (length i - 2)) w in image-whole i (omega (arith, c .before .before .before .before .before .before .before .before .before .before .before .before .before .before .before .before .before .if1 .left)) (2 + c .before .before .before .before .before .before .before .before .before .before .before .before .before .fewer .result) (ap (λ (x : ℕ). 2 + x) e) (c .before .before .before .before .before .before .before .before .before .before .before .before .fresh .result) (c .before .before .before .before .before .before .before .before .before .before .before .before .fresh .ensures) (c .before .before .before .before .before .before .before .before .before .before .load .result) (c .before .before .before .before .before .before .before .before .before .before .load .ensures) _ _ _ (c .before .before .before .before .before .before .before .before .put-line .ensures) _ _ (omega (arith, c .before .before .before .before .before .if2 .left, c .before .before .before .before .before .before .before .before .before .before .before .before .before .before .low-first .ensures)) (c .before .before .play-all .ensures)
+returns-3 c = let i = c .before .before .before .before .before .before .before .before .before .before .before .before .before .before .before .before .before .before .before .before .args .input .now in let f = c .before .before .before .before .before .before .before .before .before .before .before .before .before .fewer .ensures in let w = c .before .before .before .before .before .before .before .before .before .before .before .before .before .before .stated-length .ensures .0 in let e : c .before .before .before .before .before .before .before .before .before .before .before .before .before .fewer .result ≡ min (stated i) (length i - 2) = f ∙ ap (λ (x : ℕ). min x (length i - 2)) w in image-whole i (omega (arith, c .before .before .before .before .before .before .before .before .before .before .before .before .before .before .before .before .before .if1 .left)) (2 + c .before .before .before .before .before .before .before .before .before .before .before .before .before .fewer .result) (ap (λ (x : ℕ). 2 + x) e) (c .before .before .before .before .before .before .before .before .before .before .before .before .fresh .result) (c .before .before .before .before .before .before .before .before .before .before .before .before .fresh .ensures) (c .before .before .before .before .before .before .before .before .before .before .load .result) (c .before .before .before .before .before .before .before .before .before .before .load .ensures) _ _ _ (c .before .before .before .before .before .before .before .before .put-line .ensures) _ _ (omega (arith, c .before .before .before .before .before .if2 .left, c .before .before .before .before .before .before .before .before .before .before .before .before .before .before .stated-length .ensures .0)) (c .before .before .play-all .ensures)
 
 pub run-spec : {M : Type 1} → statement M
 run-spec =
@@ -80,9 +80,9 @@ run-spec =
     put-all-requires
     same-length
     returns
-    shared-slice-read-low-first
-    shared-slice-read-low-first-2
-    low-first-requires
+    shared-slice-read-stated-length
+    shared-slice-read-stated-length-2
+    stated-length-requires
     sub-fewer
     fewer-requires
     add-end
