@@ -1,14 +1,17 @@
--- What the stages of a request know of the state, and what they make of it. Assumes nothing.
-use mathlib.Core.Path.{_≡_, subst}
+-- What the stages of a request know of the state that was tested, and what they make of it. Assumes nothing.
+use mathlib.Core.Path.{_≡_, refl, sym, ap, _∙_, subst}
 use mathlib.Core.Bool.{Bool, true, false}
 use mathlib.Core.List.{List, [], _∷_, _++_}
 use mathlib.Core.Logic.{inl, inr, _↔_}
 use Prim.Native.Nat.{ℕ, _<_}
 use native.Mathlib.Omega.{arith}
+use lib.ListN.{getD, set}
+use lib.Seq.{set-getD}
 use Rattle.answer.specs.declared.Answer.{Answer}
 use Rattle.answer.specs.Numbers.{done}
 use Rattle.answer.specs.Answers.{Condition, Is, Granted}
 use Rattle.securon.specs.Iff.{not-then-false}
+use Rattle.tree.specs.declared.Tree.{Tree}
 use Rattle.tree.specs.declared.Levels.{Levels}
 use Rattle.tree.specs.Tree.{LevelsOf}
 use Rattle.tree.specs.Laws.{one-depth}
@@ -18,82 +21,115 @@ use Rattle.expression.specs.Fronts.{Ready}
 use Rattle.expression.specs.Judge.{InOrderOver}
 use Rattle.policy.specs.declared.Role.{Role}
 use Rattle.policy.specs.declared.File.{File}
-use Rattle.policy.specs.declared.Hold.the-variants.{By}
+use Rattle.policy.specs.declared.Hold.{Hold}
+use Rattle.policy.specs.declared.Hold.the-variants.{Free, By}
+use Rattle.policy.specs.declared.Slot.{Slot}
 use Rattle.policy.specs.declared.State.{State}
-use Rattle.policy.specs.State.{roleAt, fileAt, holdOf}
-use Rattle.policy.specs.WellFormed.{RoleInOrder, FileInOrder, WellFormed}
-use Rattle.gate.specs.declared.Seat.{Seat}
+use Rattle.policy.specs.declared.Examined.{Examined}
+use Rattle.policy.specs.State.{slotCount, freeSlot, roleAt, fileAt, holdOf, withHold, withFile}
+use Rattle.policy.specs.WellFormed.{RoleInOrder, FileInOrder, WellFormed, Examines}
+use Rattle.policy.specs.Whole.{free-held}
+use Rattle.gate.specs.declared.Effect.{Effect}
 use Rattle.gate.specs.declared.Outcome.{Outcome}
-use Rattle.gate.specs.Requests.{Session, Answers, Does}
+use Rattle.gate.specs.Requests.{Taken, Session, sessionConditions, Answers, Does}
+use Rattle.gate.specs.Effects.{effectOf, after, outcome, Tells}
 use Rattle.gate.specs.Lists.{AllHold, refuses, granted-all, refused-first, then-second}
 use Rattle.gate.specs.Laws.{one-role}
-use Rattle.gate.specs.Parts.{AtHand, Seats}
+use Rattle.gate.specs.Parts.{AtHand}
 
-module _ {s : State} {l : Levels} (w : WellFormed s) (levels : LevelsOf (s .tree) l) where
+-- a slot that is not free holds a role, and one that is free holds none
+pub some-role : (h : Hold) → (h ≡ Free → ⊥) → (role : ℕ) × (h ≡ By role)
+some-role Free n = absurd (n refl)
+some-role (By role) n = (role, refl)
+
+module _ {s : State} {slot file : ℕ} {seen : Examined} (x : Examines s slot file seen) where
+  -- the slots that were seen are those of the state
+  pub hold-seen : {h : Hold} → h ≡ getD (seen .slots) slot freeSlot .hold → h ≡ holdOf s slot
+  hold-seen e = e ∙ ap (λ (l : List Slot). getD l slot freeSlot .hold) (x .slots-is)
+
+  pub taken-seen : {h : Hold} → h ≡ getD (seen .slots) slot freeSlot .hold → (h ≡ Free → ⊥) → Taken s slot
+  taken-seen {h} e n = let (role, q) = some-role h n in (role, sym (hold-seen e) ∙ q)
+
+  pub not-taken : {h : Hold} → h ≡ getD (seen .slots) slot freeSlot .hold → h ≡ Free → Taken s slot → ⊥
+  not-taken e f t = free-held (sym f ∙ hold-seen e ∙ t .1)
+
   -- the tree with its levels
-  pub ready : Ready (s .tree) l
-  ready = record { tree = w .tree; levels = levels }
-
-  -- and with a role and a file that are present
-  pub at-hand : (role file : ℕ) (r : Role) (f : File) → role < s .nroles → file < s .nfiles → r ≡ roleAt s role → f ≡ fileAt s file → AtHand (s .tree) l r f
-  at-hand role file r f p q er ef =
-      let e = one-depth (w .is-depth) (levels .depth) in
-      let inr : RoleInOrder (s .tree .n) (l .depth .0) (roleAt s role) = subst (λ (d : ℕ). RoleInOrder (s .tree .n) d (roleAt s role)) e (w .roles-in-order role p) in
-      let inf : FileInOrder (s .tree .n) (l .depth .0) (fileAt s file) = subst (λ (d : ℕ). FileInOrder (s .tree .n) d (fileAt s file)) e (w .files-in-order file q) in
-      record { ready = ready; role = rw er inr; file = rw ef inf }
+  pub ready : WellFormed s → Ready (seen .tree) (seen .levels)
+  ready w = rw (x .tree-is) (record { tree = w .tree; levels = x .levels (x .says .1 w) })
 
   -- what is in order over the tree is right over its levels
-  pub right-over : (kind : Kind) (bs : List ℕ) → InOrderOver kind (s .tree) bs → Right kind (s .tree .n) (l .depth .0) bs
-  right-over kind bs (d, deep, o) = subst (λ (k : ℕ). Right kind (s .tree .n) k bs) (one-depth deep (levels .depth)) (o .1)
+  pub right-over : WellFormed s → (kind : Kind) (bs : List ℕ) → InOrderOver kind (s .tree) bs → Right kind (seen .tree .n) (seen .levels .depth .0) bs
+  right-over w kind bs (d, deep, o) =
+      rw (x .tree-is) (subst (λ (k : ℕ). Right kind (s .tree .n) k bs) (one-depth deep (x .levels (x .says .1 w) .depth)) (o .1))
 
--- one condition more, told by a test of the role that the slot holds
-module _ {s : State} {slot : ℕ} {P : ℕ → Type 0} {role : ℕ} (held : holdOf s slot ≡ By role) where
-  pub lacks : {x : Bool} → (x ≡ true) ↔ P role → x ≡ false → Session s slot P → ⊥
-  lacks f n w = not-then-false f n (subst P (one-role s slot (w .held) held) (w .has))
+  -- of a session, the role that its slot holds and a file that is present
+  module _ (all : AllHold (sessionConditions s slot)) (present : file < s .nfiles) where
+    abbrev w : WellFormed s
+    w = all .0
 
-  pub owns : {x : Bool} → (x ≡ true) ↔ P role → x ≡ true → Session s slot P
-  owns f e = record { role = role; held = held; has = f .0 e }
+    abbrev role : ℕ
+    role = all .1 .1 .0 .0
 
--- a stage that refuses hands nothing on
-pub seat-refused : {cs : List Condition} {s : State} {slot n : ℕ} {r : Seat} → Is (r .answer) n 0 → 0 < n → Answers cs (r .answer) → Seats cs s slot r
-seat-refused is p d = record {
-  decides = d;
-  held = λ g. absurd (omega (arith, is .number));
-  levels = λ g. absurd (omega (arith, is .number));
-}
+    pub role-seen : seen .role ≡ roleAt s (all .1 .1 .0 .0)
+    role-seen = x .role-is role (all .1 .0) (all .1 .1 .0 .1) (omega (arith, w .held-present _ _ (all .1 .1 .0 .1), w .role-count))
 
--- one that grants hands on the role and the levels
-pub seat-granted : {cs : List Condition} {s : State} {slot role : ℕ} {l : Levels} {r : Seat} → r .role ≡ role → r .levels ≡ l → holdOf s slot ≡ By role → LevelsOf (s .tree) l → Answers cs (r .answer) → Seats cs s slot r
-seat-granted er el h w d = record {
-  decides = d;
-  held = λ g. rw er h;
-  levels = λ g. rw el w;
-}
+    pub file-seen : seen .file ≡ fileAt s file
+    file-seen = x .file-is ∙ ap (fileAt s) (x .at-is (omega (arith, w .file-count)))
+
+    pub at-hand : AtHand (seen .tree) (seen .levels) (seen .role) (seen .file)
+    at-hand =
+        let levels = x .levels (x .says .1 w) in
+        let e = one-depth (w .is-depth) (levels .depth) in
+        let inr : RoleInOrder (s .tree .n) (seen .levels .depth .0) (roleAt s role) = subst (λ (d : ℕ). RoleInOrder (s .tree .n) d (roleAt s role)) e (w .roles-in-order role (w .held-present _ _ (all .1 .1 .0 .1))) in
+        let inf : FileInOrder (s .tree .n) (seen .levels .depth .0) (fileAt s file) = subst (λ (d : ℕ). FileInOrder (s .tree .n) d (fileAt s file)) e (w .files-in-order file present) in
+        record { ready = ready w; role = rw (x .tree-is, role-seen) inr; file = rw (x .tree-is, file-seen) inf }
+
+    -- a test of what was seen is one of the role that the slot holds
+    module _ (P : Tree → Role → File → Type 0) {b : Bool} (test : (b ≡ true) ↔ P (seen .tree) (seen .role) (seen .file)) where
+      told : (b ≡ true) ↔ P (s .tree) (roleAt s role) (fileAt s file)
+      told = rw (x .tree-is, role-seen, file-seen) at test
+
+      pub lacks : b ≡ false → Session s slot (λ r. P (s .tree) (roleAt s r) (fileAt s file)) → ⊥
+      lacks n v = not-then-false told n (subst (λ (r : ℕ). P (s .tree) (roleAt s r) (fileAt s file)) (one-role s slot (v .held) (all .1 .1 .0 .1)) (v .has))
+
+      pub owns : b ≡ true → Session s slot (λ r. P (s .tree) (roleAt s r) (fileAt s file))
+      owns e = record { role = role; held = all .1 .1 .0 .1; has = told .0 e }
+
+-- what a grant has shown
+pub shown : (cs : List Condition) (a : Answer) → refuses cs ≡ true → Answers cs a → Granted a → AllHold cs
+shown cs a ref d g = granted-all (λ k. k ≡ 0) a cs ref d g
 
 -- a refusal of an earlier stage stands
-pub seat-stands : (xs ys : List Condition) {s : State} {slot : ℕ} {r : Seat} → Seats xs s slot r → (Granted (r .answer) → ⊥) → Seats (xs ++ ys) s slot r
-seat-stands xs ys {s} {slot} {r} p n = record {
-  decides = refused-first (λ k. k ≡ 0) (r .answer) xs ys (p .decides) n;
-  held = p .held;
-  levels = p .levels;
-}
+pub stands : (xs ys : List Condition) (a : Answer) → Answers xs a → (Granted a → ⊥) → Answers (xs ++ ys) a
+stands xs ys a d n = refused-first (λ k. k ≡ 0) a xs ys d n
 
--- what a granted stage has shown
-pub seat-holds : (cs : List Condition) {s : State} {slot : ℕ} {r : Seat} → refuses cs ≡ true → Seats cs s slot r → Granted (r .answer) → AllHold cs
-seat-holds cs {s} {slot} {r} ref p g = granted-all (λ k. k ≡ 0) (r .answer) cs ref (p .decides) g
+-- after a list that holds, the next decides
+pub then-next : (xs ys : List Condition) (a : Answer) → AllHold xs → Answers ys a → Answers (xs ++ ys) a
+then-next xs ys a all d = then-second (λ k. k ≡ 0) a xs ys all d
 
 -- one condition after a list that holds: it refuses, or all is granted
 module _ (xs : List Condition) (c : Condition) {a : Answer} (all : AllHold xs) where
   pub last-refuses : (c .holds → ⊥) → a .number ≡ c .number → c .names (a .place) → Answers (xs ++ (c ∷ [])) a
-  last-refuses n e p = then-second (λ k. k ≡ 0) a xs (c ∷ []) all (inl (n, e, p))
+  last-refuses n e p = then-next xs (c ∷ []) a all (inl (n, e, p))
 
   pub last-grants : c .holds → Is a done 0 → Answers (xs ++ (c ∷ [])) a
-  last-grants h is = then-second (λ k. k ≡ 0) a xs (c ∷ []) all (inr (h, (is .number, is .place)))
+  last-grants h is = then-next xs (c ∷ []) a all (inr (h, (is .number, is .place)))
 
--- what is stored where the answer is a grant, and kept where it is not
-module _ {cs : List Condition} {made before : State} {r : Outcome} (d : Answers cs (r .answer)) where
-  pub done-granted : Granted (r .answer) → r .state ≡ made → Does cs made before r
-  done-granted g e = record { decides = d; leaves = record { on-grant = λ _. e; on-refusal = λ n. absurd (n g) } }
+-- what an effect leaves: all as it was, a slot altered, a file altered
+module _ {s : State} {slot file : ℕ} {seen : Examined} (x : Examines s slot file seen) where
+  pub after-kept : (a : Answer) → after s (effectOf a (seen .slots) (seen .at) (seen .file)) ≡ s
+  after-kept a = rw (x .slots-is, x .file-is) (ap (λ (l : List File). record { tree = s .tree; nroles = s .nroles; roles = s .roles; nfiles = s .nfiles; files = l; slots = s .slots }) (set-getD (s .files) (seen .at) _))
 
-  pub done-refused : (Granted (r .answer) → ⊥) → r .state ≡ before → Does cs made before r
-  done-refused n e = record { decides = d; leaves = record { on-grant = λ g. absurd (n g); on-refusal = λ _. e } }
+  pub after-hold : (a : Answer) (h : Hold) → after s (effectOf a (set (seen .slots) slot (record { hold = h })) (seen .at) (seen .file)) ≡ withHold s slot h
+  after-hold a h = rw (x .slots-is, x .file-is) (ap (λ (l : List File). record { tree = s .tree; nroles = s .nroles; roles = s .roles; nfiles = s .nfiles; files = l; slots = set (s .slots) slot (record { hold = h }) }) (set-getD (s .files) (seen .at) _))
+
+  pub after-file : (a : Answer) (f : File) → seen .at ≡ file → after s (effectOf a (seen .slots) (seen .at) f) ≡ withFile s file f
+  after-file a f e = rw (x .slots-is, e) refl
+
+-- a grant makes the state `made`, a refusal keeps the state
+module _ {cs : List Condition} {made s : State} {a : Answer} {e : Effect} (d : Answers cs a) (same : e .answer ≡ a) where
+  pub tells-granted : e .at < 32 → Granted a → after s e ≡ made → Tells s (Does cs made s) e
+  tells-granted l g q = record { within = l; is = record { decides = rw same d; leaves = record { on-grant = λ _. q; on-refusal = λ n. absurd (n (rw same g)) } } }
+
+  pub tells-refused : e .at < 32 → (Granted a → ⊥) → after s e ≡ s → Tells s (Does cs made s) e
+  tells-refused l n q = record { within = l; is = record { decides = rw same d; leaves = record { on-grant = λ g. absurd (n (rw same at g)); on-refusal = λ _. q } } }

@@ -1,23 +1,18 @@
--- What the functions inside promise: the rules over a role and a file at hand, and what the stages of a request hand on. A device of the proofs.
-use mathlib.Core.Path.{_≡_}
+-- What the functions inside promise: the rules over a role and a file at hand, and what is said of the state that was tested. A device of the proofs.
 use mathlib.Core.List.{List}
 use Prim.Native.Nat.{ℕ}
-use Rattle.answer.specs.Answers.{Condition, Granted}
 use Rattle.securon.specs.Sets.{_⊆_, Apart}
 use Rattle.tree.specs.declared.Tree.{Tree}
 use Rattle.tree.specs.declared.Levels.{Levels}
-use Rattle.tree.specs.Tree.{LevelsOf}
 use Rattle.expression.specs.Bytes.{SET, MeetsT1, MeetsT2}
 use Rattle.expression.specs.Fronts.{Ready}
 use Rattle.policy.specs.declared.Role.{Role}
 use Rattle.policy.specs.declared.File.{File}
-use Rattle.policy.specs.declared.Hold.the-variants.{By}
 use Rattle.policy.specs.declared.State.{State}
-use Rattle.policy.specs.State.{read, rolePart, filePart, vPlusPlace, vMinusPlace, m1Place, m2Place, bPlace, t1Place, ePlace, t2Place, gPlace, holdOf}
-use Rattle.policy.specs.WellFormed.{RoleInOrder, FileInOrder}
-use Rattle.gate.specs.declared.Seat.{Seat}
+use Rattle.policy.specs.State.{read, rolePart, filePart, vPlusPlace, vMinusPlace, m1Place, m2Place, bPlace, t1Place, ePlace, t2Place, gPlace}
+use Rattle.policy.specs.declared.Examined.{Examined}
+use Rattle.policy.specs.WellFormed.{RoleInOrder, FileInOrder, Examines}
 use Rattle.gate.specs.Rules.{PassesRow, MediatesRow, CoversRow}
-use Rattle.gate.specs.Requests.{Answers}
 
 -- a tree with its levels, and a role and a file in order over it
 pub record AtHand (t : Tree) (l : Levels) (r : Role) (f : File) : Type 0 where
@@ -49,8 +44,14 @@ abbrev pub RoleCovers : Tree → Role → File → ℕ → List ℕ → List ℕ
 RoleCovers t r f mode e g =
     CoversRow (SET t (rolePart r bPlace)) (SET t (filePart f (ePlace mode))) (SET t e) (SET t (filePart f (gPlace mode))) (SET t g)
 
--- what a stage hands on: the answer by its conditions; with a grant, the role that the slot holds and the levels of the tree
-pub record Seats (cs : List Condition) (s : State) (slot : ℕ) (r : Seat) : Type 0 where
-  pub decides : Answers cs (r .answer)
-  pub held : Granted (r .answer) → holdOf s slot ≡ By (r .role)
-  pub levels : Granted (r .answer) → LevelsOf (s .tree) (r .levels)
+-- some state gave this to its test, for that slot and that file
+abbrev pub Seen : ℕ → ℕ → Examined → Type 0
+Seen slot file seen = (s : State) × Examines s slot file seen
+
+-- P holds of every state that gives this to its test, for that slot and that file
+abbrev pub Of : ℕ → ℕ → Examined → (State → Type 0) → Type 0
+Of slot file seen P = (s : State) → Examines s slot file seen → P s
+
+-- the same, whatever the file
+abbrev pub OfAll : ℕ → Examined → (State → Type 0) → Type 0
+OfAll slot seen P = (file : ℕ) → Of slot file seen P

@@ -2,9 +2,11 @@
 use answer::Answer;
 use expression::Checked;
 use expression::Kind;
+use policy::Examined;
 use policy::File;
 use policy::Hold;
 use policy::Role;
+use policy::Slot;
 use policy::State;
 use securon::SecuronSet;
 use tree::Levels;
@@ -14,17 +16,18 @@ ghost use mathlib.Core.Bool.{true};
 ghost use mathlib.Core.List.{[], _∷_};
 ghost use mathlib.Core.Logic.{_↔_};
 ghost use Prim.Native.Nat.{_<_, _≤_};
-ghost use Rattle.answer.specs.Answers.{Is};
+ghost use lib.ListN.{getD, set};
 ghost use Rattle.securon.specs.Sets.{_≐_, _⊆_, marked};
 ghost use Rattle.expression.specs.Bytes.{Right, SET, MeetsT1, MeetsT2};
 ghost use Rattle.expression.specs.Fronts.{Ready};
 ghost use Rattle.expression.specs.declared.Kind.the-variants.{Privilege, Protection};
 ghost use Rattle.policy.specs.declared.Hold.the-variants.{Free};
-ghost use Rattle.policy.specs.State.{modeCount, rolePlaces, filePlaces, rolePart, filePart};
+ghost use Rattle.policy.specs.State.{modeCount, slotCount, mostFiles, rolePlaces, filePlaces, rolePart, filePart, freeSlot};
 ghost use Rattle.policy.specs.WellFormed.{PartInOrder};
 ghost use Rattle.gate.specs.Rules.{MediatesRow, EntersOrLeaves};
 ghost use Rattle.gate.specs.Requests.{second, inOrder, sessionConditions, rowConditions, expressionConditions, storeConditions, beginConditions, bypassConditions, Answers, Begins, Ends, Asks, Changes, Bypasses};
-ghost use Rattle.gate.specs.Parts.{AtHand, PlusPasses, MinusPasses, RolePasses, RoleMediates, RoleCovers, Seats};
+ghost use Rattle.gate.specs.Effects.{effectOf, outcome, Tells};
+ghost use Rattle.gate.specs.Parts.{AtHand, PlusPasses, MinusPasses, RolePasses, RoleMediates, RoleCovers, Seen, Of, OfAll};
 
 // What is added to the places of a request's second expression.
 const SECOND: usize = 256;
@@ -35,17 +38,12 @@ pub struct Outcome {
     pub state: State,
 }
 
-// What a stage of a request hands on: the answer so far; with a grant, the role that the slot holds and the levels of the tree.
-struct Seat {
-    answer: Answer,
-    role: u8,
-    levels: Levels,
-}
-
-fn wide(x: u8) -> usize
-    ensures { λ r. ⌜ r ≡ x ⌝ }
-{
-    x as usize
+// What a request comes to: the answer, and all of the state that it may alter, as it is after the request: the slots, and a file with its number. For a caller whose state lives in a variable: it stores both there, and no state is copied.
+pub struct Effect {
+    pub answer: Answer,
+    pub slots: [Slot; policy::SLOTS],
+    pub at: usize,
+    pub file: File,
 }
 
 // SET of the privilege at place k of a role.
@@ -243,110 +241,19 @@ fn is_free(hold: Hold) -> bool
     }
 }
 
-// An answer with place 0, with what is handed on.
-fn seat_of(number: u8, role: u8, levels: Levels) -> Seat
-    ensures { λ r. ⌜ Is (r .answer) number 0 × (r .role ≡ role) × (r .levels ≡ levels) ⌝ }
+// What a slot holds.
+fn hold_in(slots: [Slot; policy::SLOTS], at: usize) -> Hold
+    requires { ⌜ at < slotCount ⌝ }
+    ensures { λ r. ⌜ r ≡ getD slots at freeSlot .hold ⌝ }
 {
-    Seat {
-        answer: Answer::of(number),
-        role,
-        levels,
-    }
+    let slot = slots[at];
+    slot.hold
 }
 
-// 17, 8, 9: the one pass over the state, and what its slot holds.
-fn seated(s: State, slot: u8) -> Seat
-    ensures { λ r. ⌜ Seats (sessionConditions s slot) s slot r ⌝ }
+// begin: 17, 8, 10, 11.
+fn begin_answer(seen: Examined, slot: u8, role: u8) -> Answer
+    ensures { λ r. ⌜ OfAll slot seen (λ s. Answers (beginConditions s slot role) r) ⌝ }
 {
-    let seen = s.well_formed(0, 0);
-    let levels = seen.levels;
-    if !seen.ok {
-        return seat_of(answer::ILL_FORMED, 0, levels);
-    }
-    let at = slot as usize;
-    if policy::SLOTS <= at {
-        return seat_of(answer::NO_SLOT, 0, levels);
-    }
-    let hold = s.hold(at);
-    match hold {
-        Hold::Free => seat_of(answer::SLOT_FREE, 0, levels),
-        Hold::By(role) => seat_of(answer::DONE, role, levels),
-    }
-}
-
-// 17, 8, 9, 12, 13, 14: whether the session's role passes a row of the file.
-fn permitted(s: State, slot: u8, file: u8, mode: u8, row: usize) -> Seat
-    requires { ⌜ (mode < modeCount → row < modeCount) ⌝ }
-    ensures { λ r. ⌜ Seats (rowConditions s slot file mode row) s slot r ⌝ }
-{
-    let seat = seated(s, slot);
-    let answer = seat.answer;
-    if !answer.granted() {
-        return seat;
-    }
-    let role = seat.role;
-    let levels = seat.levels;
-    let nfiles = s.nfiles;
-    let at = file as usize;
-    if nfiles <= at {
-        return seat_of(answer::NO_FILE, role, levels);
-    }
-    if policy::MODES <= mode as usize {
-        return seat_of(answer::NO_MODE, role, levels);
-    }
-    let r = s.role(wide(role));
-    let f = s.file(at);
-    let tree = s.tree;
-    if !row_passes(tree, levels, r, f, row) {
-        return seat_of(answer::ROW_NOT_PASSED, role, levels);
-    }
-    seat_of(answer::DONE, role, levels)
-}
-
-// 17, 8, 9, 12, 13, 14, 6: whether the session's role passes the Change Protection row, and both expressions are in order.
-fn storable(s: State, slot: u8, file: u8, mode: u8, kind: Kind, x: &[u8], y: &[u8]) -> Seat
-    ensures { λ r. ⌜ Seats (storeConditions kind s slot file mode (now (x .entry)) (now (y .entry))) s slot r ⌝ }
-{
-    let seat = permitted(s, slot, file, mode, policy::CHANGE_PROTECTION);
-    let answer = seat.answer;
-    if !answer.granted() {
-        return seat;
-    }
-    let role = seat.role;
-    let levels = seat.levels;
-    let tree = s.tree;
-    let judged = judge_both(tree, levels, kind, x, y);
-    Seat {
-        answer: judged,
-        role,
-        levels,
-    }
-}
-
-// Whether the session's role may store E and G: all that `storable` tests, then its bypass set.
-fn bypassable(s: State, slot: u8, file: u8, mode: u8, e: &[u8], g: &[u8]) -> Answer
-    ensures { λ r. ⌜ Answers (bypassConditions s slot file mode (now (e .entry)) (now (g .entry))) r ⌝ }
-{
-    let seat = storable(s, slot, file, mode, Kind::Privilege, e, g);
-    let answer = seat.answer;
-    if !answer.granted() {
-        return answer;
-    }
-    let levels = seat.levels;
-    let r = s.role(wide(seat.role));
-    let f = s.file(file as usize);
-    let tree = s.tree;
-    if !covers(tree, levels, r, f, mode as usize, e, g) {
-        return Answer::of(answer::BYPASS_LACKS);
-    }
-    Answer::of(answer::DONE)
-}
-
-// Whether a session may begin in a slot, as a role.
-fn beginnable(s: State, slot: u8, role: u8) -> Answer
-    ensures { λ r. ⌜ Answers (beginConditions s slot role) r ⌝ }
-{
-    let seen = s.well_formed(0, 0);
     if !seen.ok {
         return Answer::of(answer::ILL_FORMED);
     }
@@ -354,82 +261,263 @@ fn beginnable(s: State, slot: u8, role: u8) -> Answer
     if policy::SLOTS <= at {
         return Answer::of(answer::NO_SLOT);
     }
-    if !is_free(s.hold(at)) {
+    let slots = seen.slots;
+    if !is_free(hold_in(slots, at)) {
         return Answer::of(answer::SLOT_TAKEN);
     }
-    if s.nroles <= role as usize {
+    if seen.nroles <= role as usize {
         return Answer::of(answer::NO_ROLE);
     }
     Answer::of(answer::DONE)
+}
+
+// 17, 8, 9: what every request by a session begins with.
+fn session_answer(seen: Examined, slot: u8) -> Answer
+    ensures { λ r. ⌜ OfAll slot seen (λ s. Answers (sessionConditions s slot) r) ⌝ }
+{
+    if !seen.ok {
+        return Answer::of(answer::ILL_FORMED);
+    }
+    let at = slot as usize;
+    if policy::SLOTS <= at {
+        return Answer::of(answer::NO_SLOT);
+    }
+    let slots = seen.slots;
+    if is_free(hold_in(slots, at)) {
+        return Answer::of(answer::SLOT_FREE);
+    }
+    Answer::of(answer::DONE)
+}
+
+// 17, 8, 9, 12, 13, 14: whether the session's role passes a row of the file.
+fn row_answer(seen: Examined, slot: u8, file: u8, mode: u8, row: usize) -> Answer
+    requires { ⌜ Seen slot file seen × (mode < modeCount → row < modeCount) ⌝ }
+    ensures { λ r. ⌜ Of slot file seen (λ s. Answers (rowConditions s slot file mode row) r) ⌝ }
+{
+    let answer = session_answer(seen, slot);
+    if !answer.granted() {
+        return answer;
+    }
+    if seen.nfiles <= file as usize {
+        return Answer::of(answer::NO_FILE);
+    }
+    if policy::MODES <= mode as usize {
+        return Answer::of(answer::NO_MODE);
+    }
+    let tree = seen.tree;
+    let levels = seen.levels;
+    let role = seen.role;
+    let f = seen.file;
+    if !row_passes(tree, levels, role, f, row) {
+        return Answer::of(answer::ROW_NOT_PASSED);
+    }
+    Answer::of(answer::DONE)
+}
+
+// ask: 17, 8, 9, 12, 13, 14, 15.
+fn ask_answer(seen: Examined, slot: u8, file: u8, mode: u8) -> Answer
+    requires { ⌜ Seen slot file seen ⌝ }
+    ensures { λ r. ⌜ Of slot file seen (λ s. Asks s slot file mode r) ⌝ }
+{
+    let answer = row_answer(seen, slot, file, mode, mode as usize);
+    if !answer.granted() {
+        return answer;
+    }
+    let tree = seen.tree;
+    let levels = seen.levels;
+    let role = seen.role;
+    let f = seen.file;
+    if !mediates(tree, levels, role, f, mode as usize) {
+        return Answer::of(answer::MEDIATING_UNFIT);
+    }
+    Answer::of(answer::DONE)
+}
+
+// 17, 8, 9, 12, 13, 14, 6: whether the session's role passes the Change Protection row, and both expressions are in order.
+fn store_answer(
+    seen: Examined,
+    slot: u8,
+    file: u8,
+    mode: u8,
+    kind: Kind,
+    x: &[u8],
+    y: &[u8],
+) -> Answer
+    requires { ⌜ Seen slot file seen ⌝ }
+    ensures { λ r. ⌜ Of slot file seen (λ s. Answers (storeConditions kind s slot file mode (now (x .entry)) (now (y .entry))) r) ⌝ }
+{
+    let answer = row_answer(seen, slot, file, mode, policy::CHANGE_PROTECTION);
+    if !answer.granted() {
+        return answer;
+    }
+    let tree = seen.tree;
+    let levels = seen.levels;
+    judge_both(tree, levels, kind, x, y)
+}
+
+// bypass: all that `store_answer` tests, then 16.
+fn bypass_answer(seen: Examined, slot: u8, file: u8, mode: u8, e: &[u8], g: &[u8]) -> Answer
+    requires { ⌜ Seen slot file seen ⌝ }
+    ensures { λ r. ⌜ Of slot file seen (λ s. Answers (bypassConditions s slot file mode (now (e .entry)) (now (g .entry))) r) ⌝ }
+{
+    let answer = store_answer(seen, slot, file, mode, Kind::Privilege, e, g);
+    if !answer.granted() {
+        return answer;
+    }
+    let tree = seen.tree;
+    let levels = seen.levels;
+    let role = seen.role;
+    let f = seen.file;
+    if !covers(tree, levels, role, f, mode as usize, e, g) {
+        return Answer::of(answer::BYPASS_LACKS);
+    }
+    Answer::of(answer::DONE)
+}
+
+// The slots as they are, and this file in the place of the one that was seen.
+fn file_effect(seen: Examined, answer: Answer, file: File) -> Effect
+    ensures { λ r. ⌜ r ≡ effectOf answer (seen .slots) (seen .at) file ⌝ }
+{
+    let slots = seen.slots;
+    Effect {
+        answer,
+        slots,
+        at: seen.at,
+        file,
+    }
+}
+
+// The slots with one of them holding this, and the file as it is.
+fn slot_effect(seen: Examined, answer: Answer, slot: usize, hold: Hold) -> Effect
+    requires { ⌜ slot < slotCount ⌝ }
+    ensures { λ r. ⌜ r ≡ effectOf answer (set (seen .slots) slot (record { hold = hold })) (seen .at) (seen .file) ⌝ }
+{
+    let mut slots = seen.slots;
+    let file = seen.file;
+    slots[slot] = Slot { hold };
+    Effect {
+        answer,
+        slots,
+        at: seen.at,
+        file,
+    }
+}
+
+// begin(slot, role): a free slot is to hold the role asked for.
+pub fn begin_effect(s: State, slot: u8, role: u8) -> Effect
+    ensures { λ r. ⌜ Tells s (Begins s slot role) r ⌝ }
+{
+    let seen = s.well_formed(slot as usize, 0);
+    let answer = begin_answer(seen, slot, role);
+    if answer.granted() {
+        return slot_effect(seen, answer, slot as usize, Hold::By(role));
+    }
+    let old = seen.file;
+    file_effect(seen, answer, old)
+}
+
+// end(slot): the slot is to be free.
+pub fn end_effect(s: State, slot: u8) -> Effect
+    ensures { λ r. ⌜ Tells s (Ends s slot) r ⌝ }
+{
+    let seen = s.well_formed(slot as usize, 0);
+    let answer = session_answer(seen, slot);
+    if answer.granted() {
+        return slot_effect(seen, answer, slot as usize, Hold::Free);
+    }
+    let old = seen.file;
+    file_effect(seen, answer, old)
+}
+
+// ask(slot, file, mode): alters nothing.
+pub fn ask_effect(s: State, slot: u8, file: u8, mode: u8) -> Effect
+    ensures { λ r. ⌜ Tells s (λ o. Asks s slot file mode (o .answer) × (o .state ≡ s)) r ⌝ }
+{
+    let seen = s.well_formed(slot as usize, file as usize);
+    let answer = ask_answer(seen, slot, file, mode);
+    let old = seen.file;
+    file_effect(seen, answer, old)
+}
+
+// change(slot, file, mode, T1, T2): both are to be stored in the file's row of that mode.
+pub fn change_effect(s: State, slot: u8, file: u8, mode: u8, t1: &[u8], t2: &[u8]) -> Effect
+    ensures { λ r. ⌜ Tells s (Changes s slot file mode (now (t1 .entry)) (now (t2 .entry))) r ⌝ }
+{
+    let seen = s.well_formed(slot as usize, file as usize);
+    let answer = store_answer(seen, slot, file, mode, Kind::Protection, t1, t2);
+    let old = seen.file;
+    if answer.granted() {
+        let k = policy::file_place(mode as usize, policy::T1);
+        return file_effect(seen, answer, old.put_pair(k, t1, t2));
+    }
+    file_effect(seen, answer, old)
+}
+
+// bypass(slot, file, mode, E, G): both are to be stored in the file's row of that mode.
+pub fn bypass_effect(s: State, slot: u8, file: u8, mode: u8, e: &[u8], g: &[u8]) -> Effect
+    ensures { λ r. ⌜ Tells s (Bypasses s slot file mode (now (e .entry)) (now (g .entry))) r ⌝ }
+{
+    let seen = s.well_formed(slot as usize, file as usize);
+    let answer = bypass_answer(seen, slot, file, mode, e, g);
+    let old = seen.file;
+    if answer.granted() {
+        let k = policy::file_place(mode as usize, policy::E);
+        return file_effect(seen, answer, old.put_pair(k, e, g));
+    }
+    file_effect(seen, answer, old)
+}
+
+// The answer of an effect, and the state after it.
+fn outcome_of(s: State, effect: Effect) -> Outcome
+    requires { ⌜ effect .at < mostFiles ⌝ }
+    ensures { λ r. ⌜ r ≡ outcome s effect ⌝ }
+{
+    let mut state = s;
+    let answer = effect.answer;
+    let slots = effect.slots;
+    let at = effect.at;
+    let file = effect.file;
+    state.slots = slots;
+    state.files[at] = file;
+    Outcome { answer, state }
 }
 
 // begin(slot, role): a free slot is to hold the role asked for.
 pub fn begin(s: State, slot: u8, role: u8) -> Outcome
     ensures { λ r. ⌜ Begins s slot role r ⌝ }
 {
-    let answer = beginnable(s, slot, role);
-    if answer.granted() {
-        let state = s.with_hold(slot as usize, Hold::By(role));
-        return Outcome { answer, state };
-    }
-    Outcome { answer, state: s }
+    let effect = begin_effect(s, slot, role);
+    outcome_of(s, effect)
 }
 
 // end(slot): the slot is to be free.
 pub fn end(s: State, slot: u8) -> Outcome
     ensures { λ r. ⌜ Ends s slot r ⌝ }
 {
-    let seat = seated(s, slot);
-    let answer = seat.answer;
-    if answer.granted() {
-        let state = s.with_hold(slot as usize, Hold::Free);
-        return Outcome { answer, state };
-    }
-    Outcome { answer, state: s }
+    let effect = end_effect(s, slot);
+    outcome_of(s, effect)
 }
 
 // ask(slot, file, mode): whether the session's role may act on the file in that mode. Changes nothing.
 pub fn ask(s: State, slot: u8, file: u8, mode: u8) -> Answer
     ensures { λ r. ⌜ Asks s slot file mode r ⌝ }
 {
-    let seat = permitted(s, slot, file, mode, mode as usize);
-    let answer = seat.answer;
-    if !answer.granted() {
-        return answer;
-    }
-    let levels = seat.levels;
-    let r = s.role(wide(seat.role));
-    let f = s.file(file as usize);
-    let tree = s.tree;
-    if !mediates(tree, levels, r, f, mode as usize) {
-        return Answer::of(answer::MEDIATING_UNFIT);
-    }
-    Answer::of(answer::DONE)
+    let seen = s.well_formed(slot as usize, file as usize);
+    ask_answer(seen, slot, file, mode)
 }
 
 // change(slot, file, mode, T1, T2): stores both in the file's row of that mode.
 pub fn change(s: State, slot: u8, file: u8, mode: u8, t1: &[u8], t2: &[u8]) -> Outcome
     ensures { λ r. ⌜ Changes s slot file mode (now (t1 .entry)) (now (t2 .entry)) r ⌝ }
 {
-    let seat = storable(s, slot, file, mode, Kind::Protection, t1, t2);
-    let answer = seat.answer;
-    if answer.granted() {
-        let k = policy::file_place(mode as usize, policy::T1);
-        let state = s.with_pair(file as usize, k, t1, t2);
-        return Outcome { answer, state };
-    }
-    Outcome { answer, state: s }
+    let effect = change_effect(s, slot, file, mode, t1, t2);
+    outcome_of(s, effect)
 }
 
 // bypass(slot, file, mode, E, G): stores both in the file's row of that mode.
 pub fn bypass(s: State, slot: u8, file: u8, mode: u8, e: &[u8], g: &[u8]) -> Outcome
     ensures { λ r. ⌜ Bypasses s slot file mode (now (e .entry)) (now (g .entry)) r ⌝ }
 {
-    let answer = bypassable(s, slot, file, mode, e, g);
-    if answer.granted() {
-        let k = policy::file_place(mode as usize, policy::E);
-        let state = s.with_pair(file as usize, k, e, g);
-        return Outcome { answer, state };
-    }
-    Outcome { answer, state: s }
+    let effect = bypass_effect(s, slot, file, mode, e, g);
+    outcome_of(s, effect)
 }

@@ -11,8 +11,8 @@ use Rattle.securon.specs.Iff.{and-iff, iff-trans}
 use Rattle.expression.specs.declared.Kind.{Kind}
 use Rattle.expression.specs.Bytes.{longest, Right, InOrder, WrongAt}
 use Rattle.policy.specs.State.{storedAt, roomPast}
-use Rattle.policy.specs.WellFormed.{AllZero}
-use Rattle.policy.specs.Fine.{PlaceFine, ShelfFine, ShelfIs}
+use Rattle.policy.specs.WellFormed.{HasPlaces, AllZero, ZeroShelf}
+use Rattle.policy.specs.Fine.{PlaceFine, ShelfFine, Shelving, OneIs}
 
 -- a test that says no, where the fact does not hold
 pub no-iff : {A : Type 0} → (A → ⊥) → (false ≡ true) ↔ A
@@ -44,20 +44,16 @@ module _ (kind : Kind) (n d : ℕ) (lens bytes : List ℕ) (k m : ℕ) (e : m �
         λ w. (subst (InOrder told n d) (sym part) (subst (λ (j : Kind). InOrder j n d (storedAt lens bytes k)) (sym t) (w .part .in-order)), subst AllZero (sym past) (w .past)),
       )
 
--- a shelf that is used, and one that is not
-module _ {used : Bool} (file : Bool) (n d : ℕ) (lens bytes : List ℕ) (long : length bytes ≡ longest * length lens) where
-  pub shelf-used : used ≡ true → ShelfFine file n d lens bytes ↔ ShelfIs used file (length lens) n d lens bytes
-  shelf-used u = (
-    (λ w. record { room = record { lengths = refl; room = long }; fine = λ _. w; zero = λ e. absurd (false≢true (sym e ∙ u)) }),
+-- one role or file: a shelf that is used, and one that is not
+module _ {X : Type 0} (k : Shelving X) {used : Bool} {n d : ℕ} (x : X) (room : HasPlaces (k .places) (k .lensOf x) (k .bytesOf x)) where
+  pub one-used : used ≡ true → ShelfFine (k .file) n d (k .lensOf x) (k .bytesOf x) ↔ OneIs k used n d x
+  one-used u = (
+    (λ w. record { room = room; fine = λ _. w; zero = λ e. absurd (false≢true (sym e ∙ u)) }),
     λ w. w .fine u,
   )
 
-  pub shelf-unused : used ≡ false → (AllZero lens × AllZero bytes) ↔ ShelfIs used file (length lens) n d lens bytes
-  shelf-unused u = (
-    (λ w. record {
-      room = record { lengths = refl; room = long };
-      fine = λ e. absurd (false≢true (sym u ∙ e));
-      zero = λ _. record { lengths = w .0; room = w .1 };
-    }),
-    λ w. (w .zero u .lengths, w .zero u .room),
+  pub one-unused : used ≡ false → ZeroShelf (k .lensOf x) (k .bytesOf x) ↔ OneIs k used n d x
+  one-unused u = (
+    (λ w. record { room = room; fine = λ e. absurd (false≢true (sym u ∙ e)); zero = λ _. w }),
+    λ w. w .zero u,
   )

@@ -1,9 +1,9 @@
 -- The walk over all roles, or all files. Assumes nothing.
-use mathlib.Core.Path.{_≡_, ap}
+use mathlib.Core.Path.{_≡_}
 use mathlib.Core.Bool.{Bool, true}
 use mathlib.Core.List.{List}
 use mathlib.Core.Logic.{_↔_}
-use Prim.Native.Nat.{ℕ, _<_}
+use Prim.Native.Nat.{ℕ}
 use lib.Dec.{ltb}
 use lib.ListN.{length, getD}
 use Rattle.securon.specs.Every.{Flag}
@@ -12,9 +12,6 @@ use Rattle.policy.specs.Fine.{Shelving, OneIs, AllAre}
 use Rattle.policy.proofs.Flags.{flag-end}
 
 module _ {X : Type 0} (k : Shelving X) (xs : List X) (long : length xs ≡ k .most) where
-  -- the flag of a walk that has passed them all; and the one that is asked for, where there is one
-  pub walked : {count n d i at want : ℕ} {ok : Bool} → Flag (λ (j : ℕ). OneIs k (ltb j count) n d (getD xs j (k .off))) i ok → i ≡ k .most → (want < k .most → at ≡ want) → ((ok ≡ true) ↔ AllAre k count n d xs) × (want < k .most → getD xs at (k .off) ≡ getD xs want (k .off))
-  walked f e it = (
-    iff-trans (flag-end f e) ((λ w. record { room = long; each = w }), λ w. w .each),
-    λ h. ap (λ (i : ℕ). getD xs i (k .off)) (it h),
-  )
+  -- the flag of a walk that has passed them all
+  pub walked : {count n d i : ℕ} {ok : Bool} → Flag (λ (j : ℕ). OneIs k (ltb j count) n d (getD xs j (k .off))) i ok → i ≡ k .most → (ok ≡ true) ↔ AllAre k count n d xs
+  walked f e = iff-trans (flag-end f e) ((λ w. record { room = long; each = w }), λ w. w .each)

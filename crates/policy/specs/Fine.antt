@@ -13,6 +13,7 @@ use Rattle.expression.specs.declared.Kind.{Kind}
 use Rattle.expression.specs.declared.Kind.the-variants.{Privilege, Protection}
 use Rattle.policy.specs.declared.Role.{Role}
 use Rattle.policy.specs.declared.File.{File}
+use Rattle.policy.specs.declared.Hold.{Hold}
 use Rattle.policy.specs.declared.Hold.the-variants.{By}
 use Rattle.policy.specs.declared.Slot.{Slot}
 use Rattle.policy.specs.declared.State.{State}
@@ -79,6 +80,15 @@ pub record SlotsAre (count : ℕ) (slots : List Slot) : Type 0 where
   pub room : length slots ≡ slotCount
   pub each : (i : ℕ) → i < slotCount → SlotIs count (getD slots i freeSlot)
 
+-- x is the role number that a hold names, where it names one
+abbrev pub Named : Hold → ℕ → Type 0
+Named h x = (k : ℕ) → h ≡ By k → x ≡ k
+
+-- x is the number of a role: of the one that the slot holds, where it holds one of the 32
+pub record RoleHeld (slots : List Slot) (slot x : ℕ) : Type 0 where
+  pub within : x < mostRoles
+  pub is : (k : ℕ) → slot < slotCount → getD slots slot freeSlot .hold ≡ By k → k < mostRoles → x ≡ k
+
 -- a tree whose parents that no securon has are zero
 pub record TreeFine (t : Tree) : Type 0 where
   pub room : length (t .parent) ≡ securons
@@ -89,6 +99,8 @@ pub record TreeFine (t : Tree) : Type 0 where
 -- what the test of a tree tells
 pub record TreeExamined (t : Tree) (r : Grown) : Type 0 where
   pub says : (r .ok ≡ true) ↔ TreeFine t
+  pub some : 0 < r .n
+  pub count : r .ok ≡ true → r .n ≡ t .n
   pub levels : r .ok ≡ true → LevelsOf t (r .levels)
 
 -- a state part by part, over the depth d of its tree

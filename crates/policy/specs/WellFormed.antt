@@ -84,9 +84,15 @@ pub record WellFormed (s : State) : Type 0 where
   -- unused room zero
   pub unused-zero : UnusedZero s
 
--- what the test of a state tells: whether it is well formed, and if so the levels of its securons, and the role and the file that are asked for
-pub record Examines (s : State) (role file : ℕ) (r : Examined) : Type 0 where
+-- what the test of a state tells: whether it is well formed, and if so the levels of its securons; with the tree, the counts and the slots, the role that a slot holds, and a file with its number
+pub record Examines (s : State) (slot file : ℕ) (r : Examined) : Type 0 where
   pub says : (r .ok ≡ true) ↔ WellFormed s
   pub levels : r .ok ≡ true → LevelsOf (s .tree) (r .levels)
-  pub role-is : r .ok ≡ true → role < mostRoles → r .role ≡ roleAt s role
-  pub file-is : r .ok ≡ true → file < mostFiles → r .file ≡ fileAt s file
+  pub tree-is : r .tree ≡ s .tree
+  pub nroles-is : r .nroles ≡ s .nroles
+  pub nfiles-is : r .nfiles ≡ s .nfiles
+  pub slots-is : r .slots ≡ s .slots
+  pub role-is : (k : ℕ) → slot < slotCount → holdOf s slot ≡ By k → k < mostRoles → r .role ≡ roleAt s k
+  pub within : r .at < mostFiles
+  pub at-is : file < mostFiles → r .at ≡ file
+  pub file-is : r .file ≡ fileAt s (r .at)

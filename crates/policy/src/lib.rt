@@ -12,11 +12,11 @@ ghost use mathlib.Core.Bool.{Bool, true, false};
 ghost use mathlib.Core.Logic.{_↔_};
 ghost use Prim.Native.Nat.{ℕ, _+_, _*_, _<_, _≤_};
 ghost use lib.ListN.{length, getD};
-ghost use Rattle.policy.specs.State.{modeCount, mostRoles, mostFiles, slotCount, rolePlaces, filePlaces, senses, parts, rolePlace, filePlace, storedAt, offRole, offFile, roleAt, fileAt, holdOf, noRole, noFile, freshState, putBytes, putRole, putFile, putPair, withHold, withFile, withPair};
+ghost use Rattle.policy.specs.State.{modeCount, mostRoles, mostFiles, slotCount, rolePlaces, filePlaces, senses, parts, rolePlace, filePlace, storedAt, roleAt, fileAt, holdOf, noRole, noFile, freshState, putBytes, putRole, putFile, putPair, withHold, withFile, withPair};
 ghost use Rattle.expression.specs.Bytes.{longest, InOrder};
 ghost use Rattle.tree.specs.Tree.{IsTree};
-ghost use Rattle.policy.specs.WellFormed.{AllZero, Examines};
-ghost use Rattle.policy.specs.Fine.{kindAt, PlaceFine, ShelfFine, ShelfIs, roleShelves, fileShelves, OneIs, AllAre, SlotIs, SlotsAre, TreeFine, TreeExamined};
+ghost use Rattle.policy.specs.WellFormed.{AllZero, ZeroShelf, Examines};
+ghost use Rattle.policy.specs.Fine.{kindAt, PlaceFine, ShelfFine, roleShelves, fileShelves, OneIs, SlotIs, SlotsAre, Named, RoleHeld, TreeFine, TreeExamined};
 
 // The most roles and the most files; the slots.
 pub const ROLES: usize = 32;
@@ -100,28 +100,24 @@ pub struct State {
     pub slots: [Slot; SLOTS],
 }
 
-// What the test of a state finds: whether it is well formed, and if so the levels of its securons, and the role and the file that were asked for.
+// What the test of a state finds: whether it is well formed, and if so the levels of its securons. With it all that a request needs of the state, so that the state is gone through once: the tree, the counts, the slots, the role that a slot holds, and a file with its number.
 pub struct Examined {
     pub ok: bool,
+    pub tree: Tree,
     pub levels: Levels,
+    pub nroles: usize,
+    pub nfiles: usize,
+    pub slots: [Slot; SLOTS],
     pub role: Role,
+    pub at: usize,
     pub file: File,
 }
 
-// What the tests of the tree, the roles and the files find.
+// What the test of the tree finds; n is the number of its securons, and 1 of what is no tree.
 struct Grown {
     ok: bool,
+    n: usize,
     levels: Levels,
-}
-
-struct Roles {
-    ok: bool,
-    role: Role,
-}
-
-struct Files {
-    ok: bool,
-    file: File,
 }
 
 // The place of V+ or V- of a mode.
@@ -215,38 +211,56 @@ fn shelf_fine<'a>(file: bool, n: usize, depth: Level, lens: &'a [u8], bytes: &'a
     ok
 }
 
-// A shelf that is used is fine; one that is not is zero.
-fn shelf_is<'a>(
-    used: bool,
-    file: bool,
-    n: usize,
-    depth: Level,
-    lens: &'a [u8],
-    bytes: &'a [u8],
-) -> bool
-    requires { ⌜ (0 < n) × (length (now bytes) ≡ longest * length (now lens)) ⌝ }
-    ensures { λ r. ⌜ (r ≡ true) ↔ ShelfIs used file (length (now (lens .entry))) n (depth .0) (now (lens .entry)) (now (bytes .entry)) ⌝ }
+// A role that is used: a shelf of privilege expressions.
+fn role_fine(r: Role, n: usize, depth: Level) -> bool
+    requires { ⌜ 0 < n ⌝ }
+    ensures { λ x. ⌜ (x ≡ true) ↔ ShelfFine false n (depth .0) (r .lens) (r .bytes) ⌝ }
 {
-    if used {
-        return shelf_fine(file, n, depth, lens, bytes);
-    }
-    all_zero(lens) & all_zero(bytes)
+    shelf_fine(false, n, depth, &r.lens, &r.bytes)
 }
 
-// One role, used or not: a shelf of privilege expressions.
+// A role that is not used.
+fn role_zero(r: Role) -> bool
+    ensures { λ x. ⌜ (x ≡ true) ↔ ZeroShelf (r .lens) (r .bytes) ⌝ }
+{
+    all_zero(&r.lens) & all_zero(&r.bytes)
+}
+
+// One role: a role that is used is fine, one that is not is zero.
 fn role_is(r: Role, used: bool, n: usize, depth: Level) -> bool
     requires { ⌜ 0 < n ⌝ }
     ensures { λ x. ⌜ (x ≡ true) ↔ OneIs roleShelves used n (depth .0) r ⌝ }
 {
-    shelf_is(used, false, n, depth, &r.lens, &r.bytes)
+    if used {
+        return role_fine(r, n, depth);
+    }
+    role_zero(r)
 }
 
-// One file, used or not: a shelf with protection expressions at T1 and T2.
+// A file that is used: a shelf with protection expressions at T1 and T2.
+fn file_fine(f: File, n: usize, depth: Level) -> bool
+    requires { ⌜ 0 < n ⌝ }
+    ensures { λ x. ⌜ (x ≡ true) ↔ ShelfFine true n (depth .0) (f .lens) (f .bytes) ⌝ }
+{
+    shelf_fine(true, n, depth, &f.lens, &f.bytes)
+}
+
+// A file that is not used.
+fn file_zero(f: File) -> bool
+    ensures { λ x. ⌜ (x ≡ true) ↔ ZeroShelf (f .lens) (f .bytes) ⌝ }
+{
+    all_zero(&f.lens) & all_zero(&f.bytes)
+}
+
+// One file: a file that is used is fine, one that is not is zero.
 fn file_is(f: File, used: bool, n: usize, depth: Level) -> bool
     requires { ⌜ 0 < n ⌝ }
     ensures { λ x. ⌜ (x ≡ true) ↔ OneIs fileShelves used n (depth .0) f ⌝ }
 {
-    shelf_is(used, true, n, depth, &f.lens, &f.bytes)
+    if used {
+        return file_fine(f, n, depth);
+    }
+    file_zero(f)
 }
 
 // A number below `most`: the one that is asked for, where it is one.
@@ -258,36 +272,6 @@ fn below(want: usize, most: usize) -> usize
         return want;
     }
     0
-}
-
-// The roles below the count are fine, the others zero; and the role that is asked for.
-fn roles_are(roles: [Role; ROLES], count: usize, n: usize, depth: Level, want: usize) -> Roles
-    requires { ⌜ 0 < n ⌝ }
-    ensures { λ x. ⌜ ((x .ok ≡ true) ↔ AllAre roleShelves count n (depth .0) roles) × (want < mostRoles → x .role ≡ getD roles want offRole) ⌝ }
-{
-    let mut ok = true;
-    for i in 0..ROLES {
-        let r = roles[i];
-        ok = ok & role_is(r, i < count, n, depth);
-    }
-    let at = below(want, ROLES);
-    let role = roles[at];
-    Roles { ok, role }
-}
-
-// The files below the count are fine, the others zero; and the file that is asked for.
-fn files_are(files: [File; FILES], count: usize, n: usize, depth: Level, want: usize) -> Files
-    requires { ⌜ 0 < n ⌝ }
-    ensures { λ x. ⌜ ((x .ok ≡ true) ↔ AllAre fileShelves count n (depth .0) files) × (want < mostFiles → x .file ≡ getD files want offFile) ⌝ }
-{
-    let mut ok = true;
-    for i in 0..FILES {
-        let f = files[i];
-        ok = ok & file_is(f, i < count, n, depth);
-    }
-    let at = below(want, FILES);
-    let file = files[at];
-    Files { ok, file }
 }
 
 // A role that a slot holds is below the count.
@@ -311,6 +295,26 @@ fn slots_are(slots: [Slot; SLOTS], count: usize) -> bool
         ok = ok & slot_is(s, count);
     }
     ok
+}
+
+// The role number that a slot's hold names; 0 where the slot is free.
+fn number_held(hold: Hold) -> usize
+    ensures { λ x. ⌜ Named hold x ⌝ }
+{
+    match hold {
+        Hold::Free => 0,
+        Hold::By(r) => wide(r),
+    }
+}
+
+// The number of the role that a slot holds, below 32 whatever the slot.
+fn role_held(slots: [Slot; SLOTS], slot: usize) -> usize
+    ensures { λ x. ⌜ RoleHeld slots slot x ⌝ }
+{
+    let i = below(slot, SLOTS);
+    let its = slots[i];
+    let hold = its.hold;
+    below(number_held(hold), ROLES)
 }
 
 // Of a tree, whether the parents that no securon has, those of the root and from n up, are zero.
@@ -341,13 +345,21 @@ fn examine_tree(tree: Tree) -> Grown
 {
     if tree_fine(tree) {
         let levels = tree.levels();
-        return Grown { ok: true, levels };
+        return Grown {
+            ok: true,
+            n: tree.n,
+            levels,
+        };
     }
     let levels = Levels {
         of: [0u8; SECURONS],
         depth: Level(0),
     };
-    Grown { ok: false, levels }
+    Grown {
+        ok: false,
+        n: 1,
+        levels,
+    }
 }
 
 // A role that is not there: zero.
@@ -460,40 +472,45 @@ impl State {
         }
     }
 
-    // Whether the state is well formed; and if so the levels of its securons, and the role and the file that a request names, so that a request has each but once.
-    pub fn well_formed(self, role: usize, file: usize) -> Examined
-        ensures { λ r. ⌜ Examines self role file r ⌝ }
+    // Whether the state is well formed; with all that a request needs of it, the role that a slot holds and a file among it. Both walks stand here, since an array that is handed on is copied.
+    pub fn well_formed(self, slot: usize, file: usize) -> Examined
+        ensures { λ r. ⌜ Examines self slot file r ⌝ }
     {
         let tree = self.tree;
         let grown = examine_tree(tree);
         let levels = grown.levels;
-        if !grown.ok {
-            let none = no_role();
-            let nothing = no_file();
-            return Examined {
-                ok: false,
-                levels,
-                role: none,
-                file: nothing,
-            };
-        }
         let depth = levels.depth;
-        let n = tree.n;
+        let n = grown.n;
         let nroles = self.nroles;
         let nfiles = self.nfiles;
+        let slots = self.slots;
         let roles = self.roles;
         let files = self.files;
-        let slots = self.slots;
-        let walked = roles_are(roles, nroles, n, depth, role);
-        let passed = files_are(files, nfiles, n, depth, file);
+        let mut rok = true;
+        for i in 0..ROLES {
+            let r = roles[i];
+            rok = rok & role_is(r, i < nroles, n, depth);
+        }
+        let mut fok = true;
+        for j in 0..FILES {
+            let f = files[j];
+            fok = fok & file_is(f, j < nfiles, n, depth);
+        }
         let held = slots_are(slots, nroles);
         let counts = (nroles <= ROLES) & (nfiles <= FILES);
-        let mine = walked.role;
-        let its = passed.file;
+        let mine = role_held(slots, slot);
+        let role = roles[mine];
+        let at = below(file, FILES);
+        let its = files[at];
         Examined {
-            ok: counts & walked.ok & passed.ok & held,
+            ok: grown.ok & counts & rok & fok & held,
+            tree,
             levels,
-            role: mine,
+            nroles,
+            nfiles,
+            slots,
+            role,
+            at,
             file: its,
         }
     }

@@ -1,27 +1,21 @@
--- `gate::end` meets its contract: the slot is freed exactly if the answer is a grant. Assumes nothing.
-use mathlib.Core.Path.{refl}
-use Rattle.securon.specs.Iff.{not-then-false}
-use Rattle.gate.specs.Requests.{sessionConditions}
-use Rattle.gate.proofs.Stages.{seat-holds, done-granted, done-refused}
+-- `gate::end` meets its contract: the state after the effect is the one that the effect tells of. Assumes nothing.
 use borrow.Author.Needs.{needs}
 use Rattle.gate.proofs.end.Statement.{statement}
 use Rattle.gate.proofs.end.Tie as tie
 
-seated-requires : tie.Need-seated-requires
-seated-requires c κs = search needs
+end-effect-requires : tie.Need-end-effect-requires
+end-effect-requires c κs = search needs
 
-granted-requires : tie.Need-granted-requires
-granted-requires c κs = search needs
-
-with-hold-requires : tie.Need-with-hold-requires
-with-hold-requires c κs = seat-holds (sessionConditions (c .before .before .before .before .args .s) (c .before .before .before .before .args .slot)) refl (c .before .before .before .seated .ensures) (c .before .granted .ensures .0 (c .if1 .taken)) .1 .0
+outcome-of-requires : tie.Need-outcome-of-requires
+outcome-of-requires c κs = c .end-effect .ensures .within
 
 returns : tie.Need-returns
-returns c = done-granted (c .before .before .before .before .seated .ensures .decides) (c .before .before .granted .ensures .0 (c .before .if1 .taken)) (c .with-hold .ensures)
-
-returns-2 : tie.Need-returns-2
-returns-2 c = done-refused (c .before .before .before .seated .ensures .decides) (not-then-false (c .before .granted .ensures) (c .if1 .left)) refl
+returns c = rw (c .outcome-of .ensures) (c .before .end-effect .ensures .is)
 
 pub end-spec : {M : Type 1} → statement M
 end-spec =
-    tie.close (tie.spec seated-requires granted-requires with-hold-requires returns returns-2)
+    tie.close
+    (tie.spec
+    end-effect-requires
+    outcome-of-requires
+    returns)

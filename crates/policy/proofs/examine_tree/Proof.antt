@@ -1,5 +1,7 @@
 -- `policy::examine_tree` meets its contract: the levels are had of a tree that is fine. Assumes nothing.
+use mathlib.Core.Path.{refl}
 use mathlib.Core.Bool.{false≢true}
+use native.Mathlib.Omega.{arith}
 use Rattle.securon.specs.Iff.{not-then-false}
 use Rattle.policy.proofs.Places.{no-iff, yes-iff}
 use borrow.Author.Needs.{needs}
@@ -15,12 +17,16 @@ levels-requires c κs = c .before .tree-fine .ensures .0 (c .if1 .taken) .is-tre
 returns : tie.Need-returns
 returns c = record {
   says = yes-iff (c .before .before .tree-fine .ensures .0 (c .before .if1 .taken));
+  some = c .before .before .tree-fine .ensures .0 (c .before .if1 .taken) .is-tree .count .0;
+  count = λ _. refl;
   levels = λ _. c .levels .ensures;
 }
 
 returns-2 : tie.Need-returns-2
 returns-2 c = record {
   says = no-iff (not-then-false (c .before .tree-fine .ensures) (c .if1 .left));
+  some = omega arith;
+  count = λ e. absurd (false≢true e);
   levels = λ e. absurd (false≢true e);
 }
 

@@ -1,23 +1,35 @@
--- `policy::role_is` meets its contract: its shelf is tested, which has as many places as the type says. Assumes nothing.
-use mathlib.Core.Path.{_≡_, subst}
-use mathlib.Core.Bool.{true, false}
-use mathlib.Core.Logic.{_↔_}
-use Prim.Native.Nat.{ℕ}
+-- `policy::role_is` meets its contract: the test that it takes by its use, of a shelf that has as many places as the type says. Assumes nothing.
+use mathlib.Core.Path.{_≡_}
+use Prim.Native.Nat.{_*_}
 use lib.ListN.{length}
+use Rattle.securon.specs.Iff.{iff-trans}
+use Rattle.expression.specs.Bytes.{longest}
 use Rattle.policy.specs.State.{rolePlaces}
-use Rattle.policy.specs.Fine.{ShelfIs}
+use Rattle.policy.specs.Fine.{roleShelves}
+use Rattle.policy.proofs.Places.{one-used, one-unused}
 use borrow.Author.Needs.{needs}
 use Rattle.policy.proofs.role_is.Statement.{statement}
 use Rattle.policy.proofs.role_is.Tie as tie
 
-shelf-is-requires : tie.Need-shelf-is-requires
-shelf-is-requires c κs = search needs
+role-fine-requires : tie.Need-role-fine-requires
+role-fine-requires c κs = search needs
 
 returns : tie.Need-returns
 returns c =
-    let a = c .before .before .before .before .before .before .args in
-    let long : length (a .t1 .lens) ≡ rolePlaces = search needs in
-    subst (λ (places : ℕ). (c .shelf-is .result ≡ true) ↔ ShelfIs (a .used) false places (a .n) (a .depth .0) (a .t1 .lens) (a .t1 .bytes)) long (c .shelf-is .ensures)
+    let a = c .before .before .args in
+    let places : length (a .r .lens) ≡ rolePlaces = search needs in
+    let long : length (a .r .bytes) ≡ longest * rolePlaces = search needs in
+    iff-trans (c .role-fine .ensures) (one-used roleShelves (a .r) (record { lengths = places; room = long }) (c .before .if1 .taken))
+
+role-zero-requires : tie.Need-role-zero-requires
+role-zero-requires c κs = search needs
+
+returns-2 : tie.Need-returns-2
+returns-2 c =
+    let a = c .before .before .args in
+    let places : length (a .r .lens) ≡ rolePlaces = search needs in
+    let long : length (a .r .bytes) ≡ longest * rolePlaces = search needs in
+    iff-trans (c .role-zero .ensures) (one-unused roleShelves (a .r) (record { lengths = places; room = long }) (c .before .if1 .left))
 
 pub role-is-spec : {M : Type 1} → statement M
-role-is-spec = tie.close (tie.spec shelf-is-requires returns)
+role-is-spec = tie.close (tie.spec role-fine-requires returns role-zero-requires returns-2)

@@ -1,44 +1,149 @@
--- `policy::State::well_formed` meets its contract: the tree is tested first, for the levels; then the counts, roles, files and slots. Assumes nothing.
-use borrow.Author.Tests.{not-true, not-false}
-use Rattle.policy.proofs.Test.{ill, examined}
+-- `policy::State::well_formed` meets its contract: a flag says of every role passed that it is fine or zero, another of every file; with the tree, the counts and the slots they make the test. The measures are what is left of each. Assumes nothing.
+use mathlib.Core.Path.{_≡_, refl, sym, ap, _∙_}
+use Prim.Native.Nat.{ℕ, _≤_, _-_}
+use native.Mathlib.Omega.{arith}
 use borrow.Author.Needs.{needs}
+use lib.Dec.{ltb}
+use lib.ListN.{length, getD, length-map}
+use Rattle.securon.specs.Every.{Flag, flag-none}
+use Rattle.policy.specs.State.{mostRoles, mostFiles, offRole, offFile, roleAt}
+use Rattle.policy.specs.Fine.{OneIs, roleShelves, fileShelves}
+use Rattle.policy.proofs.Flags.{flag-and}
+use Rattle.policy.proofs.Walks.{walked}
+use Rattle.policy.proofs.Test.{tree-said, tested}
 use Rattle.policy.proofs.State.well_formed.Statement.{statement}
 use Rattle.policy.proofs.State.well_formed.Tie as tie
 
-examine-tree-requires : tie.Need-examine-tree-requires
+abbrev Inv-loop : tie.InvT-loop
+Inv-loop slot file tree grown levels depth n nroles nfiles slots roles files rok₀ i₀ rok i =
+    (i ≤ mostRoles) × Flag (λ (k : ℕ). OneIs roleShelves (ltb k nroles) n (depth .0) (getD roles k offRole)) i rok
+
+abbrev μ-loop : tie.MeasureT-loop
+μ-loop slot file tree grown levels depth n nroles nfiles slots roles files rok₀ i₀ rok i = mostRoles - i
+
+abbrev Inv-loop2 : tie.InvT-loop2
+Inv-loop2 slot file tree grown levels depth n nroles nfiles slots roles files rok fok₀ j₀ fok j =
+    (j ≤ mostFiles) × Flag (λ (k : ℕ). OneIs fileShelves (ltb k nfiles) n (depth .0) (getD files k offFile)) j fok
+
+abbrev μ-loop2 : tie.MeasureT-loop2
+μ-loop2 slot file tree grown levels depth n nroles nfiles slots roles files rok fok₀ j₀ fok j = mostFiles - j
+
+examine-tree-requires : tie.Need-examine-tree-requires Inv-loop μ-loop Inv-loop2 μ-loop2
 examine-tree-requires c κs = search needs
 
-no-role-requires : tie.Need-no-role-requires
-no-role-requires c κs = search needs
+loop-holds : tie.Need-loop-holds Inv-loop μ-loop Inv-loop2 μ-loop2
+loop-holds c = (search needs, flag-none _)
 
-no-file-requires : tie.Need-no-file-requires
-no-file-requires c κs = search needs
+mul-r : tie.Need-mul-r Inv-loop μ-loop Inv-loop2 μ-loop2
+mul-r c = omega arith
 
-returns : tie.Need-returns
-returns c = ill _ _ _ _ (c .before .before .before .before .before .examine-tree .ensures) (not-true _ (c .before .before .if1 .taken)) _ _
+array-copy-out-r : tie.Need-array-copy-out-r Inv-loop μ-loop Inv-loop2 μ-loop2
+array-copy-out-r c = omega arith
 
-roles-are-requires : tie.Need-roles-are-requires
-roles-are-requires c κs = c .before .before .before .before .before .before .before .examine-tree .ensures .says .0 (not-false _ (c .before .before .before .before .if1 .left)) .is-tree .count .0
+role-is-requires : tie.Need-role-is-requires Inv-loop μ-loop Inv-loop2 μ-loop2
+role-is-requires c κs = c .before .before .before .before .before .before .before .before .examine-tree .ensures .some
 
-files-are-requires : tie.Need-files-are-requires
-files-are-requires c κs = c .before .before .before .before .before .before .before .before .examine-tree .ensures .says .0 (not-false _ (c .before .before .before .before .before .if1 .left)) .is-tree .count .0
+add-i : tie.Need-add-i Inv-loop μ-loop Inv-loop2 μ-loop2
+add-i c = omega arith
 
-slots-are-requires : tie.Need-slots-are-requires
+loop-less : tie.Need-loop-less Inv-loop μ-loop Inv-loop2 μ-loop2
+loop-less c = omega arith
+
+loop-again : tie.Need-loop-again Inv-loop μ-loop Inv-loop2 μ-loop2
+loop-again c = (omega arith, flag-and (c .before .before .before .loop .inv .1) (c .role-is .ensures))
+
+loop2-holds : tie.Need-loop2-holds Inv-loop μ-loop Inv-loop2 μ-loop2
+loop2-holds c = (search needs, flag-none _)
+
+mul-f : tie.Need-mul-f Inv-loop μ-loop Inv-loop2 μ-loop2
+mul-f c = omega arith
+
+array-copy-out-f : tie.Need-array-copy-out-f Inv-loop μ-loop Inv-loop2 μ-loop2
+array-copy-out-f c = omega arith
+
+file-is-requires : tie.Need-file-is-requires Inv-loop μ-loop Inv-loop2 μ-loop2
+file-is-requires c κs = c .before .before .before .before .before .before .before .before .before .before .examine-tree .ensures .some
+
+add-j : tie.Need-add-j Inv-loop μ-loop Inv-loop2 μ-loop2
+add-j c = omega arith
+
+loop2-less : tie.Need-loop2-less Inv-loop μ-loop Inv-loop2 μ-loop2
+loop2-less c = omega arith
+
+loop2-again : tie.Need-loop2-again Inv-loop μ-loop Inv-loop2 μ-loop2
+loop2-again c = (omega arith, flag-and (c .before .before .before .loop2 .inv .1) (c .file-is .ensures))
+
+slots-are-requires : tie.Need-slots-are-requires Inv-loop μ-loop Inv-loop2 μ-loop2
 slots-are-requires c κs = search needs
 
-returns-2 : tie.Need-returns-2
-returns-2 c =
-    examined _ _ _ _ (c .before .before .before .before .before .before .before .before .before .before .before .before .before .before .examine-tree .ensures) (not-false _ (c .before .before .before .before .before .before .before .before .before .before .before .if1 .left)) (c .before .before .before .before .before .before .roles-are .ensures) (c .before .before .before .before .before .files-are .ensures) (c .before .before .before .before .slots-are .ensures)
+role-held-requires : tie.Need-role-held-requires Inv-loop μ-loop Inv-loop2 μ-loop2
+role-held-requires c κs = search needs
+
+mul-role : tie.Need-mul-role Inv-loop μ-loop Inv-loop2 μ-loop2
+mul-role c = omega (arith, c .role-held .ensures .within)
+
+array-copy-out-role : tie.Need-array-copy-out-role Inv-loop μ-loop Inv-loop2 μ-loop2
+array-copy-out-role c = omega (arith, c .role-held .ensures .within)
+
+below-requires : tie.Need-below-requires Inv-loop μ-loop Inv-loop2 μ-loop2
+below-requires c κs = search needs
+
+mul-its : tie.Need-mul-its Inv-loop μ-loop Inv-loop2 μ-loop2
+mul-its c = omega (arith, c .below .ensures .0)
+
+array-copy-out-its : tie.Need-array-copy-out-its Inv-loop μ-loop Inv-loop2 μ-loop2
+array-copy-out-its c = omega (arith, c .below .ensures .0)
+
+returns : tie.Need-returns Inv-loop μ-loop Inv-loop2 μ-loop2
+returns c =
+    let s = c .before .before .before .before .before .before .before .before .before .before .before .before .before .before .before .before .before .args .self in
+    let t = c .before .before .before .before .before .before .before .before .before .before .before .before .before .before .before .examine-tree .ensures in
+    let rs : length (s .roles) ≡ mostRoles = sym (length-map (s .roles) _) ∙ c .before .before .before .before .before .before .before .before .before .before .before .before .before .before .before .before .before .good .0 .1 .1 .1 .1 .0 .1 .0 .1 in
+    let fs : length (s .files) ≡ mostFiles = sym (length-map (s .files) _) ∙ c .before .before .before .before .before .before .before .before .before .before .before .before .before .before .before .before .before .good .0 .1 .1 .1 .1 .1 .1 .0 .1 .0 .1 in
+    let roles = walked roleShelves (s .roles) rs (c .before .before .before .before .before .before .before .before .before .loop .inv .1) (omega arith) in
+    let files = walked fileShelves (s .files) fs (c .before .before .before .before .before .before .before .loop2 .inv .1) (omega arith) in
+    let all = tested s _ t roles files (c .before .before .before .before .before .slots-are .ensures) in
+    record {
+      says = all;
+      levels = λ e. t .levels (tree-said s _ t (all .0 e));
+      tree-is = refl;
+      nroles-is = refl;
+      nfiles-is = refl;
+      slots-is = refl;
+      role-is = λ k l h m. ap (roleAt s) (c .before .before .before .before .role-held .ensures .is k l h m);
+      within = c .before .before .below .ensures .0;
+      at-is = c .before .before .below .ensures .1;
+      file-is = refl;
+    }
 
 pub well-formed-spec : {M : Type 1} → statement M
 well-formed-spec =
     tie.close
     (tie.spec
+    Inv-loop
+    μ-loop
+    Inv-loop2
+    μ-loop2
     examine-tree-requires
-    no-role-requires
-    no-file-requires
-    returns
-    roles-are-requires
-    files-are-requires
+    loop-holds
+    mul-r
+    array-copy-out-r
+    role-is-requires
+    add-i
+    loop-less
+    loop-again
+    loop2-holds
+    mul-f
+    array-copy-out-f
+    file-is-requires
+    add-j
+    loop2-less
+    loop2-again
     slots-are-requires
-    returns-2)
+    role-held-requires
+    mul-role
+    array-copy-out-role
+    below-requires
+    mul-its
+    array-copy-out-its
+    returns)
