@@ -35,7 +35,7 @@ module _ (s₀ : State) (input : List ℕ) (from : ℕ) (first : List ℕ) (n : 
     ends-with w p q = record { printed = g .printed ++ w; plays = g .on w p; put = puts-both (g .printed) w first before after n k (r .n) (g .put) q }
 
     last : (next : Next) → NextIs s (drop at input) a t next → ToldIs next a before k after r → r .more ≡ false → PlayedOn s₀ (drop from input) first n after (r .n)
-    last Ended e p m = ends-with [] (subst (λ (l : List ℕ). Plays s l []) (sym e) ended) (p .1)
+    last Ended e p m = ends-with [] (subst (λ (l : List ℕ). Plays s l []) (sym (e .0)) ended) (p .1)
     last Cut e p m = ends-with cutLine (cut (e .0) (e .1)) (p .1)
     last (Whole j) e p m = absurd (true≢false (sym (p .0) ∙ m))
 

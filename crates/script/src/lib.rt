@@ -1,5 +1,6 @@
 // A replay input, record by record, to lines of output (01, "The replay program").
 use answer::Answer;
+use gate::Effect;
 use policy::State;
 ghost use mathlib.Core.Path.{_≡_};
 ghost use mathlib.Core.Bool.{Bool, true, false};
@@ -7,10 +8,11 @@ ghost use mathlib.Core.List.{List, [], _∷_};
 ghost use Prim.Native.Nat.{ℕ, _+_, _<_, _≤_, min};
 ghost use lib.ListN.{length, getD, drop};
 ghost use Rattle.image.specs.Image.{lowFirst};
+ghost use Rattle.gate.specs.Effects.{Tells};
 ghost use Rattle.claims.specs.Trace.{Step};
 ghost use Rattle.script.specs.Script.{Replays};
 ghost use Rattle.script.specs.Records.{storeOf};
-ghost use Rattle.script.specs.Playing.{Bounded, NextIs, Puts, PutsLine, ToldIs, PlayedOn};
+ghost use Rattle.script.specs.Playing.{Bounded, PlayedIs, Puts, PutsLine, ToldIs, PlayedOn};
 
 // The codes of the records.
 pub const BEGIN: u8 = 1;
@@ -30,11 +32,10 @@ pub enum Next {
     Whole(usize),
 }
 
-// What came of the next record: the answer and the state of its call, where it is whole.
+// What came of the next record: what its call gave back, where it is whole.
 pub struct Played {
     pub next: Next,
-    pub answer: Answer,
-    pub state: State,
+    pub effect: Effect,
 }
 
 // What was printed of a record: how full the output is, how many bytes the record has, and whether the run goes on.
@@ -84,83 +85,78 @@ fn bounds_in(rest: &[u8]) -> Bounds
     }
 }
 
-// No call is made.
-fn uncalled(next: Next, state: State) -> Played
-    ensures { λ r. ⌜ (r .next ≡ next) × (r .state ≡ state) ⌝ }
+// No call is made: nothing changes.
+fn uncalled(next: Next, s: State) -> Played
+    ensures { λ r. ⌜ (r .next ≡ next) × Tells s (λ o. o .state ≡ s) (r .effect) ⌝ }
 {
-    Played {
-        next,
+    let slots = s.slots;
+    let files = s.files;
+    let file = files[0];
+    let effect = Effect {
         answer: Answer::of(0),
-        state,
-    }
+        slots,
+        at: 0,
+        file,
+    };
+    Played { next, effect }
 }
 
 // 01 slot role.
 fn play_begin(s: State, rest: &[u8]) -> Played
     requires { ⌜ (0 < length (now rest)) × (getD (now rest) 0 0 ≡ 1) ⌝ }
-    ensures { λ r. ⌜ NextIs s (now (rest .entry)) (r .answer) (r .state) (r .next) ⌝ }
+    ensures { λ r. ⌜ PlayedIs s (now (rest .entry)) r ⌝ }
 {
     if rest.len() < 3 {
         return uncalled(Next::Cut, s);
     }
-    let done = gate::begin(s, rest[1], rest[2]);
-    let answer = done.answer;
-    let state = done.state;
     Played {
         next: Next::Whole(3),
-        answer,
-        state,
+        effect: gate::begin_effect(s, rest[1], rest[2]),
     }
 }
 
 // 02 slot.
 fn play_end(s: State, rest: &[u8]) -> Played
     requires { ⌜ (0 < length (now rest)) × (getD (now rest) 0 0 ≡ 2) ⌝ }
-    ensures { λ r. ⌜ NextIs s (now (rest .entry)) (r .answer) (r .state) (r .next) ⌝ }
+    ensures { λ r. ⌜ PlayedIs s (now (rest .entry)) r ⌝ }
 {
     if rest.len() < 2 {
         return uncalled(Next::Cut, s);
     }
-    let done = gate::end(s, rest[1]);
-    let answer = done.answer;
-    let state = done.state;
     Played {
         next: Next::Whole(2),
-        answer,
-        state,
+        effect: gate::end_effect(s, rest[1]),
     }
 }
 
 // 03 slot file mode.
 fn play_ask(s: State, rest: &[u8]) -> Played
     requires { ⌜ (0 < length (now rest)) × (getD (now rest) 0 0 ≡ 3) ⌝ }
-    ensures { λ r. ⌜ NextIs s (now (rest .entry)) (r .answer) (r .state) (r .next) ⌝ }
+    ensures { λ r. ⌜ PlayedIs s (now (rest .entry)) r ⌝ }
 {
     if rest.len() < 4 {
         return uncalled(Next::Cut, s);
     }
-    let answer = gate::ask(s, rest[1], rest[2], rest[3]);
     Played {
         next: Next::Whole(4),
-        answer,
-        state: s,
+        effect: gate::ask_effect(s, rest[1], rest[2], rest[3]),
     }
 }
 
 // change or bypass, by the code.
-fn store(s: State, code: u8, slot: u8, file: u8, mode: u8, x: &[u8], y: &[u8]) -> gate::Outcome
-    ensures { λ r. ⌜ Step s (storeOf code slot file mode (now (x .entry)) (now (y .entry))) (r .answer) (r .state) ⌝ }
+fn store(s: State, code: u8, slot: u8, file: u8, mode: u8, x: &[u8], y: &[u8]) -> Effect
+    ensures { λ r. ⌜ Tells s (λ o. Step s (storeOf code slot file mode (now (x .entry)) (now (y .entry))) (o .answer) (o .state)) r ⌝ }
 {
     if code == CHANGE {
-        return gate::change(s, slot, file, mode, x, y);
+        return gate::change_effect(s, slot, file, mode, x, y);
     }
-    gate::bypass(s, slot, file, mode, x, y)
+    gate::bypass_effect(s, slot, file, mode, x, y)
 }
 
 // 04 or 05 slot file mode, length byte and bytes, twice.
 fn play_store(s: State, rest: &[u8]) -> Played
     requires { ⌜ (0 < length (now rest)) × (3 < getD (now rest) 0 0) × (getD (now rest) 0 0 < 6) ⌝ }
-    ensures { λ r. ⌜ NextIs s (now (rest .entry)) (r .answer) (r .state) (r .next) ⌝ }
+    ensures { λ r. ⌜ PlayedIs s (now (rest .entry)) r ⌝ }
 {
     let found = bounds_in(rest);
     if !found.whole {
@@ -169,7 +165,7 @@ fn play_store(s: State, rest: &[u8]) -> Played
     let mid = found.mid;
     let from = mid + 1;
     let end = found.end;
-    let done = store(
+    let effect = store(
         s,
         rest[0],
         rest[1],
@@ -178,18 +174,15 @@ fn play_store(s: State, rest: &[u8]) -> Played
         &rest[5..mid],
         &rest[from..end],
     );
-    let answer = done.answer;
-    let state = done.state;
     Played {
         next: Next::Whole(end),
-        answer,
-        state,
+        effect,
     }
 }
 
 // The next record of the input, run on the state.
 pub fn play(s: State, rest: &[u8]) -> Played
-    ensures { λ r. ⌜ NextIs s (now (rest .entry)) (r .answer) (r .state) (r .next) ⌝ }
+    ensures { λ r. ⌜ PlayedIs s (now (rest .entry)) r ⌝ }
 {
     if rest.len() == 0 {
         return uncalled(Next::Ended, s);
@@ -280,15 +273,19 @@ fn play_all(state: State, input: &[u8], from: usize, out: &mut [u8], n: usize) -
     loop {
         let played = play(s, &input[at..]);
         let next = played.next;
-        let answer = played.answer;
+        let effect = played.effect;
+        let answer = effect.answer;
         let told = tell(out, k, next, answer);
         k = told.n;
         if !told.more {
             return k;
         }
         at += told.used;
-        let left = played.state;
-        s = left;
+        let slots = effect.slots;
+        let i = effect.at;
+        let file = effect.file;
+        s.slots = slots;
+        s.files[i] = file;
     }
 }
 

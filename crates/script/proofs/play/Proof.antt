@@ -1,9 +1,9 @@
 -- `script::play` meets its contract: the code says which record it is. Assumes nothing.
-use lib.ListN.{getD}
 use mathlib.Core.Path.{_≡_}
 use mathlib.Core.Logic.{⊎-elim}
-use borrow.Author.Tests.{eqb-true, eqb-false}
 use native.Mathlib.Omega.{arith}
+use lib.ListN.{getD}
+use borrow.Author.Tests.{eqb-true, eqb-false}
 use Rattle.expression.specs.Scan.{nil-of}
 use Rattle.script.specs.Records.{no-code}
 use Rattle.script.specs.PlayLaws.{says-cut, says-ended}
@@ -15,7 +15,7 @@ uncalled-requires : tie.Need-uncalled-requires
 uncalled-requires c κs = search needs
 
 returns : tie.Need-returns
-returns c = says-ended _ _ _ _ _ (c .uncalled .ensures .0) (nil-of _ (c .before .if1 .taken))
+returns c = says-ended _ _ _ (c .uncalled .ensures .1) (c .uncalled .ensures .0) (nil-of _ (c .before .if1 .taken))
 
 shared-slice-read-code : tie.Need-shared-slice-read-code
 shared-slice-read-code c = search needs
@@ -48,7 +48,7 @@ uncalled-requires-2 : tie.Need-uncalled-requires-2
 uncalled-requires-2 c κs = search needs
 
 returns-6 : tie.Need-returns-6
-returns-6 c = says-cut _ _ _ _ _ (c .uncalled2 .ensures .0) (omega arith) (no-code _ (c .before .before .before .before .before .if2 .left) (c .before .before .before .before .if3 .left) (c .before .before .before .if4 .left) (c .before .before .if5 .left) (eqb-false _ 5 (c .before .if6 .left)))
+returns-6 c = says-cut _ _ _ (c .uncalled2 .ensures .1) (c .uncalled2 .ensures .0) (omega arith) (no-code _ (c .before .before .before .before .before .if2 .left) (c .before .before .before .before .if3 .left) (c .before .before .before .if4 .left) (c .before .before .if5 .left) (eqb-false _ 5 (c .before .if6 .left)))
 
 pub play-spec : {M : Type 1} → statement M
 play-spec =

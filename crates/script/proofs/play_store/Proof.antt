@@ -1,12 +1,13 @@
 -- `script::play_store` meets its contract: with all its bytes there it is a record, else none. Assumes nothing.
-use mathlib.Core.Path.{_≡_, refl, sym, ap, _∙_, subst}
+use mathlib.Core.Path.{_≡_, refl, subst}
 use mathlib.Core.List.{List}
 use Prim.Native.Nat.{ℕ, _-_}
 use native.Mathlib.Omega.{arith}
 use lib.ListN.{getD, take, drop}
 use borrow.Author.Tests.{not-true, not-false}
-use Rattle.claims.specs.Trace.{Step}
 use Rattle.script.specs.Records.{firstOf, secondOf, storeOf, storeIn, stored-cut, store-whole}
+use Rattle.gate.specs.Effects.{after}
+use Rattle.claims.specs.Trace.{Step}
 use Rattle.script.specs.PlayLaws.{says-cut, Parts, parts}
 use borrow.Author.Needs.{needs}
 use Rattle.script.proofs.play_store.Statement.{statement}
@@ -19,7 +20,7 @@ uncalled-requires : tie.Need-uncalled-requires
 uncalled-requires c κs = search needs
 
 returns : tie.Need-returns
-returns c = let p = c .before .before .before .before .before .pre in says-cut _ _ _ _ _ (c .uncalled .ensures .0) (p .0) (stored-cut _ (p .1) (c .before .before .before .bounds-in .ensures .not-stored (not-true _ (c .before .if1 .taken))))
+returns c = let p = c .before .before .before .before .before .pre in says-cut _ _ _ (c .uncalled .ensures .1) (c .uncalled .ensures .0) (p .0) (stored-cut _ (p .1) (c .before .before .before .bounds-in .ensures .not-stored (not-true _ (c .before .if1 .taken))))
 
 add-from : tie.Need-add-from
 add-from c = let f = parts (c .before .before .bounds-in .ensures) (not-false _ (c .if1 .left)) in omega (arith, f .further, f .all, c .before .before .before .before .good)
@@ -59,18 +60,23 @@ store-requires c κs = search needs
 
 returns-2 : tie.Need-returns-2
 returns-2 c =
-    let s = c .before .before .before .before .before .before .before .before .before .before .before .before .before .args .s in
-    let bs = c .before .before .before .before .before .before .before .before .before .before .before .before .before .args .rest .now in
-    let p = c .before .before .before .before .before .before .before .before .before .before .before .before .before .pre in
-    let found = c .before .before .before .before .before .before .before .before .before .before .before .bounds-in .result in
-    let f = parts (c .before .before .before .before .before .before .before .before .before .before .before .bounds-in .ensures) (not-false _ (c .before .before .before .before .before .before .before .before .before .if1 .left)) in (
-      storeIn (getD bs 0 0) bs,
-      rw (f .end-is) (store-whole bs (f .stored .first) (f .stored .second) (f .stored .all) (getD bs 0 0) refl (p .1) (p .2)),
-      subst (λ (x : List ℕ). Step s (storeOf (getD bs 0 0) (getD bs 1 0) (getD bs 2 0) (getD bs 3 0) x (secondOf bs)) (c .before .before .store .result .answer) (c .before .before .store .result .state)) (f .first)
-          (subst (λ (y : List ℕ). Step s (storeOf (getD bs 0 0) (getD bs 1 0) (getD bs 2 0) (getD bs 3 0) (take (found .mid - 5) (drop 5 bs)) y) (c .before .before .store .result .answer) (c .before .before .store .result .state)) (f .second) (c .before .before .store .ensures)),
-      omega (arith, f .further),
-      f .all,
-    )
+    let s = c .before .before .before .before .before .before .before .before .before .before .before .args .s in
+    let bs = c .before .before .before .before .before .before .before .before .before .before .before .args .rest .now in
+    let p = c .before .before .before .before .before .before .before .before .before .before .before .pre in
+    let found = c .before .before .before .before .before .before .before .before .before .bounds-in .result in
+    let f = parts (c .before .before .before .before .before .before .before .before .before .bounds-in .ensures) (not-false _ (c .before .before .before .before .before .before .before .if1 .left)) in
+    let e = c .store .ensures in
+    record {
+      within = e .within;
+      is = (
+        storeIn (getD bs 0 0) bs,
+        rw (f .end-is) (store-whole bs (f .stored .first) (f .stored .second) (f .stored .all) (getD bs 0 0) refl (p .1) (p .2)),
+        subst (λ (x : List ℕ). Step s (storeOf (getD bs 0 0) (getD bs 1 0) (getD bs 2 0) (getD bs 3 0) x (secondOf bs)) (c .store .result .answer) (after s (c .store .result))) (f .first)
+            (subst (λ (y : List ℕ). Step s (storeOf (getD bs 0 0) (getD bs 1 0) (getD bs 2 0) (getD bs 3 0) (take (found .mid - 5) (drop 5 bs)) y) (c .store .result .answer) (after s (c .store .result))) (f .second) (e .is)),
+        omega (arith, f .further),
+        f .all,
+      );
+    }
 
 pub play-store-spec : {M : Type 1} → statement M
 play-store-spec =
