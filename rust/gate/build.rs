@@ -15,8 +15,8 @@ fn main() {
     let archive = folder.join("libloafawning.a");
     println!("cargo:rerun-if-changed={}", archive.display());
     if !archive.is_file() {
-        println!(
-            "cargo:warning=there is no {}: make it with `rt staticlib loafawning`, or name its folder in {FOLDER}",
+        eprintln!(
+            "There is no {}. Make it with `rt staticlib loafawning`, or name its folder in {FOLDER}.",
             archive.display()
         );
         std::process::exit(1);
