@@ -82,5 +82,10 @@ pub fn text_to_bytes(text: &[u8]) -> Result<Vec<u8>, Answer> {
     Ok(out[..answer.place as usize].to_vec())
 }
 
+/// The Rust example of the repository's README.md, which is run as a test.
+#[cfg(doctest)]
+#[doc = include_str!("../../../README.md")]
+struct Readme;
+
 #[cfg(test)]
 mod tests;
