@@ -19,16 +19,20 @@ fn main() {
         None => 60,
         Some(word) => word.parse().expect("a number of passes"),
     };
-    println!("Best of {passes} samples a figure, the median in parentheses; library and twin in turn. The ratio is of the best.\n");
+    println!("Best of {passes} samples a figure, the median in parentheses; library and twin in turn. The ratio is of the best. A load's figure is that of a whole replay of the image alone.\n");
     println!("| policy | call | library, ns | twin, ns | ratio |");
     println!("|---|---|---|---|---|");
+    let mut loads = Vec::new();
     for (timed, last) in [
         (policies::fresh(), 0),
         (policies::typical(), 7),
         (policies::full(), 31),
     ] {
-        requests(&timed, last, passes);
+        loads.push(requests(&timed, last, passes));
     }
+    println!("\n| policy | load of an image | library, ns | MB/s | twin, ns | MB/s | ratio |");
+    println!("|---|---|---|---|---|---|---|");
+    loads.iter().for_each(|line| println!("{line}"));
     println!("\n| text | bytes | library, MB/s | twin, MB/s | ratio |");
     println!("|---|---|---|---|---|");
     texts(passes);
@@ -62,8 +66,8 @@ fn inputs(timed: &Timed, last: u8) -> Vec<Vec<u8>> {
     records.iter().map(whole).collect()
 }
 
-/// Times a policy's calls and prints a line for each.
-fn requests(timed: &Timed, last: u8, passes: usize) {
+/// Times a policy's calls, prints a line for each request, and gives the load's.
+fn requests(timed: &Timed, last: u8, passes: usize) -> String {
     let inputs = inputs(timed, last);
     let mut things: Vec<[Side; 2]> = inputs.iter().map(|input| sides(input)).collect();
     let samples = in_turn(passes, &mut things);
@@ -81,7 +85,7 @@ fn requests(timed: &Timed, last: u8, passes: usize) {
     line("bypass, granted", 5, 1, MANY);
     line("begin", 6, 0, 16);
     line("end", 7, 6, 16);
-    load_line(timed, &samples[0]);
+    load_line(timed, &samples[0])
 }
 
 /// The two sides of a replay, the library's first.
@@ -110,15 +114,19 @@ fn print_line(policy: &str, call: &str, [library, twin]: [[f64; 2]; 2]) {
 }
 
 /// The load's line, with the image's size and the bytes a second of the best.
-fn load_line(timed: &Timed, samples: &[Samples; 2]) {
+fn load_line(timed: &Timed, samples: &[Samples; 2]) -> String {
     let bytes = timed.image.len();
     let figures = [0, 1].map(|side| samples[side].best_and_median());
-    let speed = figures.map(|[best, _]| bytes as f64 * 1e3 / best);
-    let call = format!(
-        "load of {bytes} bytes: {:.0} and {:.0} MB/s",
-        speed[0], speed[1]
-    );
-    print_line(timed.name, &call, figures);
+    let [library, twin] = figures
+        .map(|[best, median]| format!("{best:.0} ({median:.0}) | {:.0}", megabytes(bytes, best)));
+    let ratio = figures[0][0] / figures[1][0];
+    let name = timed.name;
+    format!("| {name} | {bytes} bytes | {library} | {twin} | {ratio:.2} |")
+}
+
+/// Megabytes a second of so many bytes in so many ns.
+fn megabytes(bytes: usize, ns: f64) -> f64 {
+    bytes as f64 * 1e3 / ns
 }
 
 /// Times texts and prints a line for each kind.
@@ -148,7 +156,7 @@ fn texts(passes: usize) {
         let bytes: usize = texts.iter().map(Vec::len).sum();
         let speed = [0, 1].map(|side| {
             let figures = samples[0][side].best_and_median();
-            figures.map(|ns| bytes as f64 * 1e3 / ns)
+            figures.map(|ns| megabytes(bytes, ns))
         });
         let [library, twin] = speed;
         println!(
