@@ -46,7 +46,7 @@ enum gate_answer {
     GATE_TEXT_WRONG = 18,      /* text wrong; the first byte that no legal text goes on with, or
                                   the text's length; 512 where the text is longer than that      */
     GATE_TEXT_LONG = 19,       /* text makes over 48 bytes                                       */
-    GATE_BUFFER_SHORT = 20     /* output buffer under 48 bytes                                   */
+    GATE_BUFFER_SHORT = 20,    /* output buffer under 48 bytes                                   */
 };
 
 /* The number of a packed answer, one of enum gate_answer. */
@@ -73,7 +73,7 @@ static inline uint32_t gate_place(uint32_t answer) { return answer / 256; }
  *   change   0 6 8 9 12 13 14
  *   bypass   0 6 8 9 12 13 14 16
  *
- * 17 stands before the others of a request, and no state that a replay comes to gets it.
+ * 17, which every request judges first, is never printed: every state of a replay is well formed.
  */
 size_t gate_replay(const uint8_t *input, size_t input_len, uint8_t *out, size_t out_len);
 

@@ -191,7 +191,7 @@ fn load_kind(image: &[u8], number: usize, place: usize) -> Option<String> {
     let part = |role| if role { "a role" } else { "a file" };
     let kind = match (number, field(image, place)) {
         (0, _) => return None,
-        (1 | 2, _) if number == 1 => format!("1 at byte {place}"),
+        (1, _) => format!("1 at byte {place}"),
         (2, _) => format!("2 at {place}"),
         (3, Field::Front) => "3 in the mark or the version".to_string(),
         (3, Field::Byte(role)) => format!("3 in {}'s expression", part(role)),
