@@ -26,8 +26,8 @@ pub struct Timed {
 }
 
 impl Timed {
-    /// The calls on a policy: Read of file 0 by slot 0 and by slot 1, and file 0's Execute row
-    /// stored again as it is.
+    /// The calls on a policy: slot 0 asks to read file 0; the ask named (slot, file, mode) is
+    /// refused; and slot 0 stores file 0's Execute row again as it is.
     fn new(name: &'static str, policy: &Policy, refused: [u8; 3]) -> Timed {
         let row = &policy.files[0][8..12];
         let twice = |code, first: &[u8], second: &[u8]| {
@@ -60,8 +60,8 @@ pub fn fresh() -> Timed {
     Timed::new("fresh", &policy, [0, 0, 2])
 }
 
-/// 20 securons three levels deep, 8 roles, 12 files, expressions of 2 to 14 bytes. Role 0 holds
-/// every securon and role 7 only what V- and T2 of no row name.
+/// 20 securons on three levels, 8 roles, 12 files, expressions of 2 to 14 bytes. Role 0 holds
+/// every securon; role 7 holds securon 4 alone, which no row asks for.
 pub fn typical() -> Timed {
     let parents = (1..20).map(|s: u8| if s < 5 { 0 } else { (s - 1) / 4 });
     let role = |role: usize| {
