@@ -12,8 +12,6 @@ use Rattle.answer.specs.Numbers.{done}
 use Rattle.answer.specs.Answers.{Condition, Is, Granted}
 use Rattle.securon.specs.Iff.{not-then-false}
 use Rattle.tree.specs.declared.Tree.{Tree}
-use Rattle.tree.specs.declared.Levels.{Levels}
-use Rattle.tree.specs.Tree.{LevelsOf}
 use Rattle.tree.specs.Laws.{one-depth}
 use Rattle.expression.specs.declared.Kind.{Kind}
 use Rattle.expression.specs.Bytes.{Right}
@@ -26,13 +24,12 @@ use Rattle.policy.specs.declared.Hold.the-variants.{Free, By}
 use Rattle.policy.specs.declared.Slot.{Slot}
 use Rattle.policy.specs.declared.State.{State}
 use Rattle.policy.specs.declared.Examined.{Examined}
-use Rattle.policy.specs.State.{slotCount, freeSlot, roleAt, fileAt, holdOf, withHold, withFile}
+use Rattle.policy.specs.State.{freeSlot, roleAt, fileAt, holdOf, withHold, withFile}
 use Rattle.policy.specs.WellFormed.{RoleInOrder, FileInOrder, WellFormed, Examines}
 use Rattle.policy.specs.Whole.{free-held}
 use Rattle.gate.specs.declared.Effect.{Effect}
-use Rattle.gate.specs.declared.Outcome.{Outcome}
 use Rattle.gate.specs.Requests.{Taken, Session, sessionConditions, Answers, Does}
-use Rattle.gate.specs.Effects.{effectOf, after, outcome, Tells}
+use Rattle.gate.specs.Effects.{effectOf, after, Tells}
 use Rattle.gate.specs.Lists.{AllHold, refuses, granted-all, refused-first, then-second}
 use Rattle.gate.specs.Laws.{one-role}
 use Rattle.gate.specs.Parts.{AtHand}

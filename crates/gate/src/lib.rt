@@ -298,7 +298,8 @@ fn row_answer(seen: Examined, slot: u8, file: u8, mode: u8, row: usize) -> Answe
     if !answer.granted() {
         return answer;
     }
-    if seen.nfiles <= file as usize {
+    let nfiles = seen.nfiles;
+    if nfiles <= file as usize {
         return Answer::of(answer::NO_FILE);
     }
     if policy::MODES <= mode as usize {

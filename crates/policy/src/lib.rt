@@ -8,11 +8,11 @@ use tree::Levels;
 use tree::Shape;
 use tree::Tree;
 ghost use mathlib.Core.Path.{_≡_};
-ghost use mathlib.Core.Bool.{Bool, true, false};
+ghost use mathlib.Core.Bool.{true, false};
 ghost use mathlib.Core.Logic.{_↔_};
-ghost use Prim.Native.Nat.{ℕ, _+_, _*_, _<_, _≤_};
+ghost use Prim.Native.Nat.{_+_, _*_, _<_, _≤_};
 ghost use lib.ListN.{length, getD};
-ghost use Rattle.policy.specs.State.{modeCount, mostRoles, mostFiles, slotCount, rolePlaces, filePlaces, senses, parts, rolePlace, filePlace, storedAt, roleAt, fileAt, holdOf, noRole, noFile, freshState, putBytes, putRole, putFile, putPair, withHold, withFile, withPair};
+ghost use Rattle.policy.specs.State.{modeCount, slotCount, rolePlaces, filePlaces, senses, parts, rolePlace, filePlace, storedAt, noRole, noFile, freshState, putBytes, putRole, putFile, putPair, withHold};
 ghost use Rattle.expression.specs.Bytes.{longest, InOrder};
 ghost use Rattle.tree.specs.Tree.{IsTree};
 ghost use Rattle.policy.specs.WellFormed.{AllZero, ZeroShelf, Examines};
@@ -515,34 +515,6 @@ impl State {
         }
     }
 
-    // Role i.
-    pub fn role(self, i: usize) -> Role
-        requires { ⌜ i < mostRoles ⌝ }
-        ensures { λ r. ⌜ r ≡ roleAt self i ⌝ }
-    {
-        let all = self.roles;
-        all[i]
-    }
-
-    // File i.
-    pub fn file(self, i: usize) -> File
-        requires { ⌜ i < mostFiles ⌝ }
-        ensures { λ r. ⌜ r ≡ fileAt self i ⌝ }
-    {
-        let every = self.files;
-        every[i]
-    }
-
-    // What slot i holds.
-    pub fn hold(self, i: usize) -> Hold
-        requires { ⌜ i < slotCount ⌝ }
-        ensures { λ r. ⌜ r ≡ holdOf self i ⌝ }
-    {
-        let slots = self.slots;
-        let slot = slots[i];
-        slot.hold
-    }
-
     // The same state with slot i holding `hold`.
     pub fn with_hold(mut self, i: usize, hold: Hold) -> State
         requires { ⌜ i < slotCount ⌝ }
@@ -551,27 +523,6 @@ impl State {
         let mut slots = self.slots;
         slots[i] = Slot { hold };
         self.slots = slots;
-        self
-    }
-
-    // The same state with another file i.
-    pub fn with_file(mut self, i: usize, f: File) -> State
-        requires { ⌜ i < mostFiles ⌝ }
-        ensures { λ r. ⌜ r ≡ withFile self i f ⌝ }
-    {
-        self.files[i] = f;
-        self
-    }
-
-    // The same state with x stored at place k of a file, and y two places on: T1 with T2, or E with G.
-    pub fn with_pair(mut self, file: usize, k: usize, x: &[u8], y: &[u8]) -> State
-        requires { ⌜ (file < mostFiles) × (k + 2 < filePlaces) × (length (now x) ≤ longest) × (length (now y) ≤ longest) ⌝ }
-        ensures { λ r. ⌜ r ≡ withPair self file k (now (x .entry)) (now (y .entry)) ⌝ }
-    {
-        let files = self.files;
-        let old = files[file];
-        let next = old.put_pair(k, x, y);
-        self.files[file] = next;
         self
     }
 }

@@ -84,17 +84,17 @@ impl State {
     /// and a refusal keeps it (01, "Requests"). Faults are met from the front, the first
     /// decides (01, "Order").
     pub fn load(&mut self, image: &[u8]) -> Answer {
-        settle(read(image).map(|state| *self = state))
+        let mut state = State::fresh();
+        settle(read(image, &mut state).map(|()| *self = state))
     }
 }
 
-/// The state of a whole image, or the first fault.
-fn read(image: &[u8]) -> Result<State, Answer> {
-    let mut state = State::fresh();
+/// Puts a whole image into a fresh state, or gives the first fault.
+fn read(image: &[u8], state: &mut State) -> Result<(), Answer> {
     let mut reader = Reader { image, at: 0 };
     reader.mark()?;
     reader.version()?;
-    let tree = reader.tree(&mut state)?;
+    let tree = reader.tree(state)?;
     state.role_count = reader.count(0, MOST_ROLES)?;
     for role in 0..usize::from(state.role_count) {
         for (which, &kind) in ROLE_KINDS.iter().enumerate() {
@@ -107,8 +107,7 @@ fn read(image: &[u8]) -> Result<State, Answer> {
             state.store_in_file(file, which, reader.expression(kind, &tree)?);
         }
     }
-    reader.nothing_follows()?;
-    Ok(state)
+    reader.nothing_follows()
 }
 
 /// An image under reading.

@@ -81,22 +81,19 @@ struct Machine {
     at: At,
     made: Made,
     left: Left,
-    open: [Left; MOST_TEXT],
-    depth: usize,
+    open: Vec<Left>,
 }
 
 impl Machine {
     fn new() -> Machine {
-        let left = Left { or: 0, and: 0 };
         Machine {
             at: At::Start,
             made: Made {
                 bytes: [0; MOST_BYTES],
                 count: 0,
             },
-            left,
-            open: [left; MOST_TEXT],
-            depth: 0,
+            left: Left { or: 0, and: 0 },
+            open: Vec::new(),
         }
     }
 
@@ -105,7 +102,7 @@ impl Machine {
         self.at = match (self.at, byte) {
             (at, b' ') => after_space(at)?,
             (at, b'0'..=b'9') => self.digit(at, byte - b'0')?,
-            (At::Start | At::Item, b'(') => self.open()?,
+            (At::Start | At::Item, b'(') => self.open(),
             (At::Number(_) | At::AfterNumber, b'[') => self.open_range(),
             (At::Number(_) | At::AfterNumber | At::AfterItem, b'&') => self.and(),
             (At::Number(_) | At::AfterNumber | At::AfterItem, b'|') => self.or(),
@@ -165,26 +162,24 @@ impl Machine {
         At::Item
     }
 
-    fn open(&mut self) -> Option<At> {
-        *self.open.get_mut(self.depth)? = self.left;
-        self.depth += 1;
+    fn open(&mut self) -> At {
+        self.open.push(self.left);
         let here = self.made.count;
         self.left = Left {
             or: here,
             and: here,
         };
-        Some(At::Item)
+        At::Item
     }
 
     fn close(&mut self) -> Option<At> {
-        self.depth = self.depth.checked_sub(1)?;
-        self.left = self.open[self.depth];
+        self.left = self.open.pop()?;
         Some(At::AfterItem)
     }
 
     /// Whether the text may end here.
     fn may_end(&self) -> bool {
-        self.depth == 0
+        self.open.is_empty()
             && matches!(
                 self.at,
                 At::Start | At::Number(_) | At::AfterNumber | At::AfterItem

@@ -41,28 +41,28 @@ of-requires : tie.Need-of-requires
 of-requires c κs = search needs
 
 returns-2 : tie.Need-returns-2
-returns-2 c = λ s x. let all = passed (c .before .before .before) s x in inr (all .0, inr (all .1 .0, inr (all .1 .1 .0, inl ((λ h. omega (arith, x .nfiles-is)), c .of .ensures .number, c .of .ensures .place))))
+returns-2 c = λ s x. let all = passed (c .before .before) s x in inr (all .0, inr (all .1 .0, inr (all .1 .1 .0, inl ((λ h. omega (arith, x .nfiles-is)), c .of .ensures .number, c .of .ensures .place))))
 
 of-requires-2 : tie.Need-of-requires-2
 of-requires-2 c κs = search needs
 
 returns-3 : tie.Need-returns-3
-returns-3 c = λ s x. let all = passed (c .before .before .before .before) s x in inr (all .0, inr (all .1 .0, inr (all .1 .1 .0, inr (omega (arith, x .nfiles-is), inl ((λ h. omega arith), c .of2 .ensures .number, c .of2 .ensures .place)))))
+returns-3 c = λ s x. let all = passed (c .before .before .before) s x in inr (all .0, inr (all .1 .0, inr (all .1 .1 .0, inr (omega (arith, x .nfiles-is), inl ((λ h. omega arith), c .of2 .ensures .number, c .of2 .ensures .place)))))
 
 row-passes-requires : tie.Need-row-passes-requires
-row-passes-requires c κs = let (s, x) = c .before .before .before .before .before .before .before .before .before .before .pre .0 in (at-hand x (passed (c .before .before .before .before .before .before .before) s x) (omega (arith, x .nfiles-is)), c .before .before .before .before .before .before .before .before .before .before .pre .1 (omega arith))
+row-passes-requires c κs = let (s, x) = c .before .before .before .before .before .before .before .before .before .pre .0 in (at-hand x (passed (c .before .before .before .before .before .before) s x) (omega (arith, x .nfiles-is)), c .before .before .before .before .before .before .before .before .before .pre .1 (omega arith))
 
 of-requires-3 : tie.Need-of-requires-3
 of-requires-3 c κs = search needs
 
 returns-4 : tie.Need-returns-4
-returns-4 c = λ s x. let a = c .before .before .before .before .before .before .before .before .before .before .before .before .before .args in let all = passed (c .before .before .before .before .before .before .before .before .before .before) s x in inr (all .0, inr (all .1 .0, inr (all .1 .1 .0, inr (omega (arith, x .nfiles-is), inr (omega arith, inl (lacks x all (omega (arith, x .nfiles-is)) (λ t r f. RolePasses t r f (a .row)) (c .before .before .row-passes .ensures) (not-true _ (c .before .if4 .taken)), c .of3 .ensures .number, c .of3 .ensures .place))))))
+returns-4 c = λ s x. let a = c .before .before .before .before .before .before .before .before .before .before .before .before .args in let all = passed (c .before .before .before .before .before .before .before .before .before) s x in inr (all .0, inr (all .1 .0, inr (all .1 .1 .0, inr (omega (arith, x .nfiles-is), inr (omega arith, inl (lacks x all (omega (arith, x .nfiles-is)) (λ t r f. RolePasses t r f (a .row)) (c .before .before .row-passes .ensures) (not-true _ (c .before .if4 .taken)), c .of3 .ensures .number, c .of3 .ensures .place))))))
 
 of-requires-4 : tie.Need-of-requires-4
 of-requires-4 c κs = search needs
 
 returns-5 : tie.Need-returns-5
-returns-5 c = λ s x. let a = c .before .before .before .before .before .before .before .before .before .before .before .before .before .args in let all = passed (c .before .before .before .before .before .before .before .before .before .before) s x in inr (all .0, inr (all .1 .0, inr (all .1 .1 .0, inr (omega (arith, x .nfiles-is), inr (omega arith, inr (owns x all (omega (arith, x .nfiles-is)) (λ t r f. RolePasses t r f (a .row)) (c .before .before .row-passes .ensures) (not-false _ (c .before .if4 .left)), (c .of4 .ensures .number, c .of4 .ensures .place)))))))
+returns-5 c = λ s x. let a = c .before .before .before .before .before .before .before .before .before .before .before .before .args in let all = passed (c .before .before .before .before .before .before .before .before .before) s x in inr (all .0, inr (all .1 .0, inr (all .1 .1 .0, inr (omega (arith, x .nfiles-is), inr (omega arith, inr (owns x all (omega (arith, x .nfiles-is)) (λ t r f. RolePasses t r f (a .row)) (c .before .before .row-passes .ensures) (not-false _ (c .before .if4 .left)), (c .of4 .ensures .number, c .of4 .ensures .place)))))))
 
 pub row-answer-spec : {M : Type 1} → statement M
 row-answer-spec =

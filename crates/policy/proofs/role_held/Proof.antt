@@ -1,9 +1,8 @@
 -- `policy::role_held` meets its contract: the slot asked for is the one looked at, and the number it names the one given, where both are in range. Assumes nothing.
-use mathlib.Core.Path.{_≡_, ap, _∙_}
+use mathlib.Core.Path.{ap, _∙_}
 use Prim.Native.Nat.{ℕ}
 use native.Mathlib.Omega.{arith}
 use lib.ListN.{getD}
-use Rattle.policy.specs.declared.Hold.{Hold}
 use Rattle.policy.specs.State.{freeSlot}
 use borrow.Author.Needs.{needs}
 use Rattle.policy.proofs.role_held.Statement.{statement}

@@ -1,0 +1,125 @@
+//! Replay inputs: records of requests, drawn for a policy.
+
+use crate::draw::Draw;
+use crate::policies::{damaged, over, privilege, protection, Over};
+use twin::image::Policy;
+
+/// An input: the length, the image, and the records.
+pub fn input(image: &[u8], records: &[u8]) -> Vec<u8> {
+    let mut input = (image.len() as u16).to_le_bytes().to_vec();
+    input.extend(image);
+    input.extend(records);
+    input
+}
+
+/// What records are drawn for.
+pub struct For {
+    over: Over,
+    roles: usize,
+    files: usize,
+}
+
+impl For {
+    /// Records for a policy.
+    pub fn policy(policy: &Policy) -> For {
+        For {
+            over: over(&policy.parents),
+            roles: policy.roles.len(),
+            files: policy.files.len(),
+        }
+    }
+
+    /// So many records, after a begin of four slots.
+    pub fn records(&self, draw: &mut Draw, count: usize) -> Vec<u8> {
+        let mut records = Vec::new();
+        for slot in 0..4 {
+            records.extend([1, slot, draw.byte(self.roles.max(1))]);
+        }
+        for _ in 0..count {
+            match draw.below(100) {
+                0..=11 => records.extend([1, slot(draw), part_of(draw, self.roles)]),
+                12..=15 => records.extend([2, slot(draw)]),
+                16..=59 => records.extend(self.row(draw, 3)),
+                60..=80 => records.extend(self.twice(draw, 4)),
+                _ => records.extend(self.twice(draw, 5)),
+            }
+        }
+        records
+    }
+
+    /// A code with a slot, a file and a mode.
+    fn row(&self, draw: &mut Draw, code: u8) -> [u8; 4] {
+        [
+            code,
+            slot(draw),
+            part_of(draw, self.files),
+            part_of(draw, 5),
+        ]
+    }
+
+    /// A change or a bypass; one expression in six is damaged.
+    fn twice(&self, draw: &mut Draw, code: u8) -> Vec<u8> {
+        let mut record = self.row(draw, code).to_vec();
+        for _ in 0..2 {
+            let mut bytes = self.expression(draw, code);
+            if draw.one_in(6) {
+                bytes = damaged(draw, &bytes);
+            }
+            push(&mut record, &bytes);
+        }
+        record
+    }
+
+    /// An expression in order for a change or a bypass.
+    fn expression(&self, draw: &mut Draw, code: u8) -> Vec<u8> {
+        match code {
+            4 => protection(draw, self.over),
+            _ => privilege(draw, self.over),
+        }
+    }
+
+    /// A change and a bypass of slot 0 and file 0 for each place of an expression, damaged there,
+    /// now the first and now the second.
+    pub fn damaged_everywhere(&self, draw: &mut Draw) -> Vec<u8> {
+        let mut records = Vec::new();
+        for code in [4, 5] {
+            let good = self.expression(draw, code);
+            for at in 0..good.len() {
+                let mut bad = good.clone();
+                bad[at] = draw.pick(&[0, 1, 2, 3, 4, 5, 63, 64, 255, bad[at] ^ 1, bad[at] ^ 2]);
+                let first = draw.one_in(2);
+                let pair = if first { [&bad, &good] } else { [&good, &bad] };
+                records.extend([code, 0, 0, draw.byte(5)]);
+                for bytes in pair {
+                    push(&mut records, bytes);
+                }
+            }
+        }
+        records
+    }
+}
+
+/// A length byte and its bytes.
+fn push(record: &mut Vec<u8>, bytes: &[u8]) {
+    record.push(bytes.len() as u8);
+    record.extend(bytes);
+}
+
+/// A slot, mostly one of the first four.
+fn slot(draw: &mut Draw) -> u8 {
+    match draw.below(20) {
+        0 => 15 + draw.byte(4),
+        1 => draw.byte(256),
+        2 => draw.byte(16),
+        _ => draw.byte(4),
+    }
+}
+
+/// A number, mostly below `count`.
+fn part_of(draw: &mut Draw, count: usize) -> u8 {
+    match draw.below(20) {
+        0 => draw.byte(256),
+        1 => (count + draw.below(2)) as u8,
+        _ => draw.byte(count.max(1)),
+    }
+}
