@@ -49,7 +49,13 @@ turn-requires : tie.Need-turn-requires Inv-loop μ-loop
 turn-requires c κs = search needs
 
 add-from : tie.Need-add-from Inv-loop μ-loop
-add-from c = omega (arith, c .before .turn .ensures, few-bytes _ _ (c .before .before .before .before .play .result) (c .before .before .before .before .play .ensures), take-most (c .before .before .before .before .before .before .before .before .topped .result .n - c .before .before .before .before .before .before .before .before .topped .result .at) (drop (c .before .before .before .before .before .before .before .before .topped .result .at) (c .before .before .before .before .before .before .before .before .topped .last .0)), c .before .before .before .before .before .before .before .before .topped .ensures .0, c .before .before .before .before .before .before .before .before .topped .ensures .1)
+add-from c =
+    let turn = c .before .turn in
+    let play = c .before .before .before .before .play in
+    let held = c .before .before .before .before .before .before .before .before .topped in
+    let few = few-bytes _ _ (play .result) (play .ensures) in
+    let most = take-most (held .result .n - held .result .at) (drop (held .result .at) (held .last .0)) in
+    omega (arith, turn .ensures, few, most, held .ensures .0, held .ensures .1)
 
 mul-file : tie.Need-mul-file Inv-loop μ-loop
 mul-file c = omega (arith, c .before .before .before .before .before .before .play .ensures .within)
@@ -64,7 +70,13 @@ loop-less : tie.Need-loop-less Inv-loop μ-loop
 loop-less c = search needs
 
 loop-again : tie.Need-loop-again Inv-loop μ-loop
-loop-again c = (omega (arith, c .before .before .before .turn .ensures, few-bytes _ _ (c .before .before .before .before .before .before .play .result) (c .before .before .before .before .before .before .play .ensures), take-most (c .before .before .before .before .before .before .before .before .before .before .topped .result .n - c .before .before .before .before .before .before .before .before .before .before .topped .result .at) (drop (c .before .before .before .before .before .before .before .before .before .before .topped .result .at) (c .before .before .before .before .before .before .before .before .before .before .topped .last .0)), c .before .before .before .before .before .before .before .before .before .before .topped .ensures .0, c .before .before .before .before .before .before .before .before .before .before .topped .ensures .1), omega (arith, c .before .before .before .before .before .before .before .before .before .before .topped .ensures .1), omega (arith, c .before .before .before .before .before .before .before .before .before .before .topped .kept .0))
+loop-again c =
+    let turn = c .before .before .before .turn in
+    let play = c .before .before .before .before .before .before .play in
+    let held = c .before .before .before .before .before .before .before .before .before .before .topped in
+    let few = few-bytes _ _ (play .result) (play .ensures) in
+    let most = take-most (held .result .n - held .result .at) (drop (held .result .at) (held .last .0)) in
+    (omega (arith, turn .ensures, few, most, held .ensures .0, held .ensures .1), omega (arith, held .ensures .1), omega (arith, held .kept .0))
 
 returns : tie.Need-returns Inv-loop μ-loop
 returns c = search needs

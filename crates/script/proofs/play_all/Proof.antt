@@ -35,13 +35,24 @@ tell-requires : tie.Need-tell-requires Inv-loop μ-loop
 tell-requires c κs = search needs
 
 same-length : tie.Need-same-length Inv-loop μ-loop
-same-length c = let h : length (c .before .before .before .before .tell .last .0) ≡ length (c .before .before .before .before .before .before .before .before .before .before .before .before .before .args .out .now) = omega (arith, c .before .before .before .before .tell .kept, c .before .before .before .before .before .before .before .before .before .before .loop .inv .long) in h
+same-length c =
+    let h : length (c .before .before .before .before .tell .last .0) ≡ length (c .before .before .before .before .before .before .before .before .before .before .before .before .before .args .out .now) = omega (arith, c .before .before .before .before .tell .kept, c .before .before .before .before .before .before .before .before .before .before .loop .inv .long) in
+    h
 
 returns : tie.Need-returns Inv-loop μ-loop
-returns c = stops _ _ _ _ _ _ _ _ _ (c .before .before .before .before .before .before .before .before .before .before .loop .inv) (c .before .before .before .before .before .before .before .before .play .result .effect .answer) (after (c .before .before .before .before .before .before .before .before .before .before .loop .s) (c .before .before .before .before .before .before .before .before .play .result .effect)) (c .before .before .before .before .tell .last .0) (c .before .before .before .before .tell .result) (c .before .before .before .before .before .before .before .before .play .result .next) (c .before .before .before .before .before .before .before .before .play .ensures .is) (c .before .before .before .before .tell .ensures) (not-true _ (c .if1 .taken))
+returns c =
+    let turn = c .before .before .before .before .before .before .before .before .before .before .loop in
+    let play = c .before .before .before .before .before .before .before .before .play in
+    let tell = c .before .before .before .before .tell in
+    stops _ _ _ _ _ _ _ _ _ (turn .inv) (play .result .effect .answer) (after (turn .s) (play .result .effect)) (tell .last .0) (tell .result) (play .result .next) (play .ensures .is) (tell .ensures) (not-true _ (c .if1 .taken))
 
 add-at : tie.Need-add-at Inv-loop μ-loop
-add-at c = let g = goes _ _ _ _ _ _ _ _ _ (c .before .before .before .before .before .before .before .before .before .before .before .loop .inv) (c .before .before .before .before .before .before .before .before .before .play .result .effect .answer) (after (c .before .before .before .before .before .before .before .before .before .before .before .loop .s) (c .before .before .before .before .before .before .before .before .before .play .result .effect)) (c .before .before .before .before .before .tell .last .0) (c .before .before .before .before .before .tell .result) (c .before .before .before .before .before .before .before .before .before .play .result .next) (c .before .before .before .before .before .before .before .before .before .play .ensures .is) (c .before .before .before .before .before .tell .ensures) (not-false _ (c .before .if1 .left)) (omega (arith, c .before .before .before .before .before .tell .kept)) in omega (arith, g .1 .within, c .before .before .before .before .before .before .before .before .before .before .before .before .before .before .good)
+add-at c =
+    let turn = c .before .before .before .before .before .before .before .before .before .before .before .loop in
+    let play = c .before .before .before .before .before .before .before .before .before .play in
+    let tell = c .before .before .before .before .before .tell in
+    let g = goes _ _ _ _ _ _ _ _ _ (turn .inv) (play .result .effect .answer) (after (turn .s) (play .result .effect)) (tell .last .0) (tell .result) (play .result .next) (play .ensures .is) (tell .ensures) (not-false _ (c .before .if1 .left)) (omega (arith, tell .kept)) in
+    omega (arith, g .1 .within, c .before .before .before .before .before .before .before .before .before .before .before .before .before .before .good)
 
 mul-file : tie.Need-mul-file Inv-loop μ-loop
 mul-file c = omega (arith, c .before .before .before .before .before .before .before .before .before .before .before .play .ensures .within)
@@ -50,10 +61,19 @@ element-set-from-file : tie.Need-element-set-from-file Inv-loop μ-loop
 element-set-from-file c = c .before .before .before .before .before .before .before .before .before .before .before .play .ensures .within
 
 loop-less : tie.Need-loop-less Inv-loop μ-loop
-loop-less c = let g = goes _ _ _ _ _ _ _ _ _ (c .before .before .before .before .before .before .before .before .before .before .before .before .before .loop .inv) (c .before .before .before .before .before .before .before .before .before .before .before .play .result .effect .answer) (after (c .before .before .before .before .before .before .before .before .before .before .before .before .before .loop .s) (c .before .before .before .before .before .before .before .before .before .before .before .play .result .effect)) (c .before .before .before .before .before .before .before .tell .last .0) (c .before .before .before .before .before .before .before .tell .result) (c .before .before .before .before .before .before .before .before .before .before .before .play .result .next) (c .before .before .before .before .before .before .before .before .before .before .before .play .ensures .is) (c .before .before .before .before .before .before .before .tell .ensures) (not-false _ (c .before .before .before .if1 .left)) (omega (arith, c .before .before .before .before .before .before .before .tell .kept)) in omega (arith, g .0, g .1 .within)
+loop-less c =
+    let turn = c .before .before .before .before .before .before .before .before .before .before .before .before .before .loop in
+    let play = c .before .before .before .before .before .before .before .before .before .before .before .play in
+    let tell = c .before .before .before .before .before .before .before .tell in
+    let g = goes _ _ _ _ _ _ _ _ _ (turn .inv) (play .result .effect .answer) (after (turn .s) (play .result .effect)) (tell .last .0) (tell .result) (play .result .next) (play .ensures .is) (tell .ensures) (not-false _ (c .before .before .before .if1 .left)) (omega (arith, tell .kept)) in
+    omega (arith, g .0, g .1 .within)
 
 loop-again : tie.Need-loop-again Inv-loop μ-loop
-loop-again c = goes _ _ _ _ _ _ _ _ _ (c .before .before .before .before .before .before .before .before .before .before .before .before .before .loop .inv) (c .before .before .before .before .before .before .before .before .before .before .before .play .result .effect .answer) (after (c .before .before .before .before .before .before .before .before .before .before .before .before .before .loop .s) (c .before .before .before .before .before .before .before .before .before .before .before .play .result .effect)) (c .before .before .before .before .before .before .before .tell .last .0) (c .before .before .before .before .before .before .before .tell .result) (c .before .before .before .before .before .before .before .before .before .before .before .play .result .next) (c .before .before .before .before .before .before .before .before .before .before .before .play .ensures .is) (c .before .before .before .before .before .before .before .tell .ensures) (not-false _ (c .before .before .before .if1 .left)) (omega (arith, c .before .before .before .before .before .before .before .tell .kept)) .1
+loop-again c =
+    let turn = c .before .before .before .before .before .before .before .before .before .before .before .before .before .loop in
+    let play = c .before .before .before .before .before .before .before .before .before .before .before .play in
+    let tell = c .before .before .before .before .before .before .before .tell in
+    goes _ _ _ _ _ _ _ _ _ (turn .inv) (play .result .effect .answer) (after (turn .s) (play .result .effect)) (tell .last .0) (tell .result) (play .result .next) (play .ensures .is) (tell .ensures) (not-false _ (c .before .before .before .if1 .left)) (omega (arith, tell .kept)) .1
 
 pub play-all-spec : {M : Type 1} → statement M
 play-all-spec =

@@ -61,7 +61,13 @@ same-length-2 : tie.Need-same-length-2
 same-length-2 c = search needs
 
 returns-2 : tie.Need-returns-2
-returns-2 c = let i = c .before .before .before .before .before .before .before .before .before .before .before .before .before .before .before .args .input .now in let f = c .before .before .before .before .before .before .before .before .fewer .ensures in let w = c .before .before .before .before .before .before .before .before .before .stated-length .ensures .0 in let e : c .before .before .before .before .before .before .before .before .fewer .result ≡ min (stated i) (length i - 2) = f ∙ ap (λ (x : ℕ). min x (length i - 2)) w in image-short i (omega (arith, c .before .before .before .before .before .before .before .before .before .before .before .before .if1 .left)) (2 + c .before .before .before .before .before .before .before .before .fewer .result) (ap (λ (x : ℕ). 2 + x) e) (c .before .before .before .before .before .before .before .fresh .result) (c .before .before .before .before .before .before .before .fresh .ensures) (c .before .before .before .before .before .load .result) (c .before .before .before .before .before .load .ensures) _ _ _ (c .before .before .before .put-line .ensures) (omega (arith, c .if2 .taken, c .before .before .before .before .before .before .before .before .before .stated-length .ensures .0))
+returns-2 c =
+    let i = c .before .before .before .before .before .before .before .before .before .before .before .before .before .before .before .args .input .now in
+    let have = c .before .before .before .before .before .before .before .before .fewer in
+    let fresh = c .before .before .before .before .before .before .before .fresh in
+    let load = c .before .before .before .before .before .load in
+    let e : have .result ≡ min (stated i) (length i - 2) = have .ensures ∙ ap (λ (x : ℕ). min x (length i - 2)) (c .before .before .before .before .before .before .before .before .before .stated-length .ensures .0) in
+    image-short i (omega (arith, c .before .before .before .before .before .before .before .before .before .before .before .before .if1 .left)) (2 + have .result) (ap (λ (x : ℕ). 2 + x) e) (fresh .result) (fresh .ensures) (load .result) (load .ensures) _ _ _ (c .before .before .before .put-line .ensures) (omega (arith, c .if2 .taken, c .before .before .before .before .before .before .before .before .before .stated-length .ensures .0))
 
 play-all-requires : tie.Need-play-all-requires
 play-all-requires c κs = search needs
@@ -70,7 +76,13 @@ same-length-3 : tie.Need-same-length-3
 same-length-3 c = search needs
 
 returns-3 : tie.Need-returns-3
-returns-3 c = let i = c .before .before .before .before .before .before .before .before .before .before .before .before .before .before .before .before .before .before .before .before .args .input .now in let f = c .before .before .before .before .before .before .before .before .before .before .before .before .before .fewer .ensures in let w = c .before .before .before .before .before .before .before .before .before .before .before .before .before .before .stated-length .ensures .0 in let e : c .before .before .before .before .before .before .before .before .before .before .before .before .before .fewer .result ≡ min (stated i) (length i - 2) = f ∙ ap (λ (x : ℕ). min x (length i - 2)) w in image-whole i (omega (arith, c .before .before .before .before .before .before .before .before .before .before .before .before .before .before .before .before .before .if1 .left)) (2 + c .before .before .before .before .before .before .before .before .before .before .before .before .before .fewer .result) (ap (λ (x : ℕ). 2 + x) e) (c .before .before .before .before .before .before .before .before .before .before .before .before .fresh .result) (c .before .before .before .before .before .before .before .before .before .before .before .before .fresh .ensures) (c .before .before .before .before .before .before .before .before .before .before .load .result) (c .before .before .before .before .before .before .before .before .before .before .load .ensures) _ _ _ (c .before .before .before .before .before .before .before .before .put-line .ensures) _ _ (omega (arith, c .before .before .before .before .before .if2 .left, c .before .before .before .before .before .before .before .before .before .before .before .before .before .before .stated-length .ensures .0)) (c .before .before .play-all .ensures)
+returns-3 c =
+    let i = c .before .before .before .before .before .before .before .before .before .before .before .before .before .before .before .before .before .before .before .before .args .input .now in
+    let have = c .before .before .before .before .before .before .before .before .before .before .before .before .before .fewer in
+    let fresh = c .before .before .before .before .before .before .before .before .before .before .before .before .fresh in
+    let load = c .before .before .before .before .before .before .before .before .before .before .load in
+    let e : have .result ≡ min (stated i) (length i - 2) = have .ensures ∙ ap (λ (x : ℕ). min x (length i - 2)) (c .before .before .before .before .before .before .before .before .before .before .before .before .before .before .stated-length .ensures .0) in
+    image-whole i (omega (arith, c .before .before .before .before .before .before .before .before .before .before .before .before .before .before .before .before .before .if1 .left)) (2 + have .result) (ap (λ (x : ℕ). 2 + x) e) (fresh .result) (fresh .ensures) (load .result) (load .ensures) _ _ _ (c .before .before .before .before .before .before .before .before .put-line .ensures) _ _ (omega (arith, c .before .before .before .before .before .if2 .left, c .before .before .before .before .before .before .before .before .before .before .before .before .before .before .stated-length .ensures .0)) (c .before .before .play-all .ensures)
 
 pub run-spec : {M : Type 1} → statement M
 run-spec =
