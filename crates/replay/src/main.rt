@@ -7,13 +7,13 @@ use script::Next;
 ghost use mathlib.Core.Path.{_≡_};
 ghost use Prim.Native.Nat.{_≤_, _<_};
 ghost use lib.ListN.{length};
+ghost use Rattle.script.specs.Playing.{bytesOf};
 
 // The most bytes that a record has: a code, three numbers, and twice a length byte with 255 bytes.
 const LONGEST_RECORD: usize = 516;
 
-// What is left after a record: the state, how many bytes it had, and whether the run goes on.
+// How many bytes a record had, and whether the run goes on.
 struct Turned {
-    state: State,
     used: usize,
     more: bool,
 }
@@ -32,32 +32,25 @@ fn print(a: Answer) {
     io::write_all(STDOUT_FILENO, &out[..n]);
 }
 
-// The next record is run, and its answer printed; a broken-off or unknown one prints `cut` and ends the run.
-fn turn(s: State, rest: &[u8]) -> Turned
-    ensures { λ r. ⌜ r .used ≤ length (now (rest .entry)) ⌝ }
+// The answer of the next record is printed; a broken-off or unknown one prints `cut` and ends the run.
+fn turn(next: Next, a: Answer) -> Turned
+    ensures { λ r. ⌜ r .used ≡ bytesOf next ⌝ }
 {
-    let played = script::play(s, rest);
-    let state = played.state;
-    let answer = played.answer;
-    let next = played.next;
     match next {
         Next::Ended => Turned {
-            state,
             used: 0,
             more: false,
         },
         Next::Cut => {
             io::write_all(STDOUT_FILENO, b"cut\n");
             Turned {
-                state,
                 used: 0,
                 more: false,
             }
         }
         Next::Whole(k) => {
-            print(answer);
+            print(a);
             Turned {
-                state,
                 used: k,
                 more: true,
             }
@@ -121,19 +114,20 @@ fn run(state: State) {
         let at = h.at;
         to = h.n;
         over = h.over;
-        let turned = turn(s, &window[at..to]);
+        let played = script::play(s, &window[at..to]);
+        let next = played.next;
+        let effect = played.effect;
+        let answer = effect.answer;
+        let turned = turn(next, answer);
         from = at + turned.used;
         more = turned.more;
-        s = turned.state;
+        let slots = effect.slots;
+        let i = effect.at;
+        let file = effect.file;
+        s.slots = slots;
+        s.files[i] = file;
         turns -= 1;
     }
-}
-
-// A number of 16 bits, low byte first.
-fn low_first(low: u8, high: u8) -> usize
-    ensures { λ r. ⌜ r < 65536 ⌝ }
-{
-    low as usize + 256 * (high as usize)
 }
 
 fn main() {
@@ -143,7 +137,7 @@ fn main() {
         io::write_all(STDOUT_FILENO, b"cut\n");
         return;
     }
-    let stated = low_first(two[0], two[1]);
+    let stated = script::stated_length(two[0], two[1]);
     let mut bytes = io::large_buffer();
     let have = io::read_full(STDIN_FILENO, &mut bytes[..stated]);
     let loaded = image::load(State::fresh(), &bytes[..have]);

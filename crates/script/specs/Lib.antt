@@ -2,3 +2,5 @@ pub mod Script
 pub mod Records
 pub mod Playing
 pub mod PlayLaws
+pub mod FillLaws
+pub mod Laws

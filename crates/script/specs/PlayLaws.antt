@@ -5,19 +5,29 @@ use mathlib.Core.List.{List, []}
 use Prim.Native.Nat.{ℕ, _+_, _-_, _<_, _≤_}
 use native.Mathlib.Omega.{arith}
 use lib.ListN.{length, getD, take, drop}
-use Rattle.answer.specs.declared.Answer.{Answer}
 use Rattle.policy.specs.declared.State.{State}
+use Rattle.gate.specs.Effects.{Tells, after}
+use Rattle.script.specs.declared.Played.{Played}
 use Rattle.script.specs.declared.Next.{Next}
-use Rattle.script.specs.declared.Next.the-variants.{Ended, Cut}
+use Rattle.script.specs.declared.Next.the-variants.{Ended, Cut, Whole}
 use Rattle.script.specs.Records.{NoRecord, secondAt, endAt, firstOf, secondOf, Stored}
-use Rattle.script.specs.Playing.{Bounded, NextIs}
+use Rattle.script.specs.Playing.{Bounded, NextIs, bytesOf, PlayedIs}
 
-module _ (s : State) (bs : List ℕ) (a : Answer) (t : State) (n : Next) where
-  pub says-cut : n ≡ Cut → 0 < length bs → NoRecord bs → NextIs s bs a t n
-  says-cut e h none = subst (NextIs s bs a t) (sym e) ((λ q. let z = ap length q in omega arith), none)
+module _ (s : State) (bs : List ℕ) (r : Played) (u : Tells s (λ o. o .state ≡ s) (r .effect)) where
+  pub says-cut : r .next ≡ Cut → 0 < length bs → NoRecord bs → PlayedIs s bs r
+  says-cut e h none = record { within = u .within; is = subst (NextIs s bs _ _) (sym e) ((λ z. let w = ap length z in omega arith), none, u .is) }
 
-  pub says-ended : n ≡ Ended → bs ≡ [] → NextIs s bs a t n
-  says-ended e q = subst (NextIs s bs a t) (sym e) q
+  pub says-ended : r .next ≡ Ended → bs ≡ [] → PlayedIs s bs r
+  says-ended e z = record { within = u .within; is = subst (NextIs s bs _ _) (sym e) (z, u .is) }
+
+-- a record has no more bytes than there are
+pub few-bytes : (s : State) (bs : List ℕ) (r : Played) → PlayedIs s bs r → bytesOf (r .next) ≤ length bs
+few-bytes s bs r p = go (r .next) (p .is)
+  where
+    go : (n : Next) → NextIs s bs (r .effect .answer) (after s (r .effect)) n → bytesOf n ≤ length bs
+    go Ended e = omega arith
+    go Cut e = omega arith
+    go (Whole n) e = e .4
 
 -- what is known of a record 04 or 05 whose bytes are all there
 pub record Parts (bs : List ℕ) (mid end : ℕ) : Type 0 where

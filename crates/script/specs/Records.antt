@@ -1,7 +1,10 @@
 -- Which bytes are which record, read off byte by byte. Assumes nothing.
 use mathlib.Core.Path.{_≡_, refl, sym, ap, _∙_, subst}
+use mathlib.Core.Bool.{cond}
 use mathlib.Core.List.{List, [], _∷_, _++_}
 use Prim.Native.Nat.{ℕ, suc, _+_, _<_, _≤_}
+use native.Mathlib.Decide.{ℕ-discrete}
+use lib.Dec.{eqb}
 use native.Mathlib.Omega.{arith}
 use lib.ListN.{length, getD, take, drop, length-append, take-append-drop, length-drop}
 use lib.Seq.{take-append-seam, drop-append-seam, length-take-le, drop-drop, drop-cons, getD-drop, getD-append-seam}
@@ -76,6 +79,21 @@ firstOf bs = take (getD bs 4 0) (drop 5 bs)
 abbrev pub secondOf : List ℕ → List ℕ
 secondOf bs = take (getD bs (secondAt bs) 0) (drop (secondAt bs + 1) bs)
 
+-- the request that it is: 04 change, 05 bypass
+abbrev pub storeOf : ℕ → ℕ → ℕ → ℕ → List ℕ → List ℕ → Request
+storeOf code slot file mode x y = cond (eqb code 4) (change slot file mode x y) (bypass slot file mode x y)
+
+abbrev pub storeIn : ℕ → List ℕ → Request
+storeIn code bs = storeOf code (getD bs 1 0) (getD bs 2 0) (getD bs 3 0) (firstOf bs) (secondOf bs)
+
+either : (code : ℕ) → 3 < code → code < 6 → (slot file mode : ℕ) (x y rest : List ℕ)
+    → Reads (code ∷ slot ∷ file ∷ mode ∷ (expressionBytes x ++ (expressionBytes y ++ rest))) (storeOf code slot file mode x y) rest
+either code low high slot file mode x y rest = go (ℕ-discrete code 4)
+  where
+    go : Dec (code ≡ 4) → Reads (code ∷ slot ∷ file ∷ mode ∷ (expressionBytes x ++ (expressionBytes y ++ rest))) (storeOf code slot file mode x y) rest
+    go (yes e) = rw e a-change
+    go (no n) = let e : code ≡ 5 = omega arith in rw e a-bypass
+
 -- so they stand one after the other
 two-parts : (bs : List ℕ) → 5 ≤ length bs → secondAt bs < length bs → endAt bs ≤ length bs
     → drop 4 bs ≡ expressionBytes (firstOf bs) ++ (expressionBytes (secondOf bs) ++ drop (endAt bs) bs)
@@ -106,11 +124,10 @@ module _ (bs : List ℕ) (h : 5 ≤ length bs) (l : secondAt bs < length bs) (m 
       four-on bs (omega arith) ∙ ap (λ (x : ℕ). x ∷ getD bs 1 0 ∷ getD bs 2 0 ∷ getD bs 3 0 ∷ drop 4 bs) c
       ∙ ap (λ (x : List ℕ). code ∷ getD bs 1 0 ∷ getD bs 2 0 ∷ getD bs 3 0 ∷ x) (two-parts bs h l m)
 
-  pub change-whole : getD bs 0 0 ≡ 4 → Reads bs (change (getD bs 1 0) (getD bs 2 0) (getD bs 3 0) (firstOf bs) (secondOf bs)) (drop (endAt bs) bs)
-  change-whole c = subst (λ (x : List ℕ). Reads x (change (getD bs 1 0) (getD bs 2 0) (getD bs 3 0) (firstOf bs) (secondOf bs)) (drop (endAt bs) bs)) (sym (written 4 c)) a-change
-
-  pub bypass-whole : getD bs 0 0 ≡ 5 → Reads bs (bypass (getD bs 1 0) (getD bs 2 0) (getD bs 3 0) (firstOf bs) (secondOf bs)) (drop (endAt bs) bs)
-  bypass-whole c = subst (λ (x : List ℕ). Reads x (bypass (getD bs 1 0) (getD bs 2 0) (getD bs 3 0) (firstOf bs) (secondOf bs)) (drop (endAt bs) bs)) (sym (written 5 c)) a-bypass
+  pub store-whole : (code : ℕ) → getD bs 0 0 ≡ code → 3 < code → code < 6 → Reads bs (storeIn code bs) (drop (endAt bs) bs)
+  store-whole code c low high =
+      subst (λ (x : List ℕ). Reads x (storeIn code bs) (drop (endAt bs) bs)) (sym (written code c))
+      (either code low high (getD bs 1 0) (getD bs 2 0) (getD bs 3 0) (firstOf bs) (secondOf bs) (drop (endAt bs) bs))
 
 -- a record that is there has all its bytes
 pub record Stored (bs : List ℕ) : Type 0 where
@@ -118,13 +135,17 @@ pub record Stored (bs : List ℕ) : Type 0 where
   pub second : secondAt bs < length bs
   pub all : endAt bs ≤ length bs
 
+-- the length byte of the second expression
+pub second-length : (c slot file mode : ℕ) (x y rest bs : List ℕ) → bs ≡ c ∷ slot ∷ file ∷ mode ∷ (expressionBytes x ++ (expressionBytes y ++ rest)) → getD bs (secondAt bs) 0 ≡ length y
+second-length c slot file mode x y rest bs e =
+    ap (λ (k : ℕ). getD bs (5 + k) 0) (ap (λ (l : List ℕ). getD l 4 0) e)
+    ∙ sym (getD-drop 5 bs (length x) 0) ∙ ap (λ (l : List ℕ). getD (drop 5 l) (length x) 0) e ∙ getD-append-seam x (length y) (y ++ rest) 0
+
 stored : (c slot file mode : ℕ) (x y rest bs : List ℕ) → bs ≡ c ∷ slot ∷ file ∷ mode ∷ (expressionBytes x ++ (expressionBytes y ++ rest)) → Stored bs
 stored c slot file mode x y rest bs e =
     let n : length bs ≡ 6 + length x + length y + length rest = ap length e ∙ simp (length-append) (omega arith) in
     let a : getD bs 4 0 ≡ length x = ap (λ (l : List ℕ). getD l 4 0) e in
-    let b : getD bs (5 + length x) 0 ≡ length y =
-    sym (getD-drop 5 bs (length x) 0) ∙ ap (λ (l : List ℕ). getD (drop 5 l) (length x) 0) e ∙ getD-append-seam x (length y) (y ++ rest) 0 in
-    let d : getD bs (secondAt bs) 0 ≡ length y = ap (λ (k : ℕ). getD bs (5 + k) 0) a ∙ b in
+    let d : getD bs (secondAt bs) 0 ≡ length y = second-length c slot file mode x y rest bs e in
     record { first = omega arith; second = omega arith; all = omega arith }
 
 pub stored-cut : (bs : List ℕ) → 3 < getD bs 0 0 → (Stored bs → ⊥) → NoRecord bs

@@ -51,3 +51,19 @@ pub record Loaded (input printed : List ℕ) : Type 0 where
 
 abbrev pub Prints : List ℕ → List ℕ → Type 0
 Prints input printed = ((length input < 2) × (printed ≡ cutLine)) ⊎ Loaded input printed
+
+-- what stands in an output once w was written from its front, as far as it fits: after it, what was there
+abbrev pub over : List ℕ → List ℕ → List ℕ
+over w before = take (length before) w ++ drop (length w) before
+
+-- so an output was filled; r is the length of all of w, or one more than the room where it does not fit
+pub record Filled (w before after : List ℕ) (r : ℕ) : Type 0 where
+  pub is : after ≡ over w before
+  pub fits : length w ≤ length before → r ≡ length w
+  pub full : length before < length w → r ≡ length before + 1
+
+-- a whole input was replayed into an output: what it prints fills it
+pub record Replays (input before after : List ℕ) (r : ℕ) : Type 0 where
+  pub printed : List ℕ
+  pub prints : Prints input printed
+  pub filled : Filled printed before after r

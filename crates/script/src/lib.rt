@@ -1,12 +1,18 @@
 // A replay input, record by record, to lines of output (01, "The replay program").
 use answer::Answer;
+use gate::Effect;
 use policy::State;
 ghost use mathlib.Core.Path.{_≡_};
 ghost use mathlib.Core.Bool.{Bool, true, false};
-ghost use mathlib.Core.List.{List, []};
-ghost use Prim.Native.Nat.{ℕ, _+_, _<_, _≤_};
-ghost use lib.ListN.{length, getD};
-ghost use Rattle.script.specs.Playing.{Bounded, NextIs};
+ghost use mathlib.Core.List.{List, [], _∷_};
+ghost use Prim.Native.Nat.{ℕ, _+_, _<_, _≤_, min};
+ghost use lib.ListN.{length, getD, drop};
+ghost use Rattle.image.specs.Image.{lowFirst};
+ghost use Rattle.gate.specs.Effects.{Tells};
+ghost use Rattle.claims.specs.Trace.{Step};
+ghost use Rattle.script.specs.Script.{Replays};
+ghost use Rattle.script.specs.Records.{storeOf};
+ghost use Rattle.script.specs.Playing.{Bounded, PlayedIs, Puts, PutsLine, ToldIs, PlayedOn};
 
 // The codes of the records.
 pub const BEGIN: u8 = 1;
@@ -26,11 +32,17 @@ pub enum Next {
     Whole(usize),
 }
 
-// What came of the next record: the answer and the state of its call, where it is whole.
+// What came of the next record: what its call gave back, where it is whole.
 pub struct Played {
     pub next: Next,
-    pub answer: Answer,
-    pub state: State,
+    pub effect: Effect,
+}
+
+// What was printed of a record: how full the output is, how many bytes the record has, and whether the run goes on.
+struct Told {
+    n: usize,
+    used: usize,
+    more: bool,
 }
 
 // Where the two expressions of a record 04 or 05 stand, if they are all there: the place of the second length byte, and the end.
@@ -73,73 +85,78 @@ fn bounds_in(rest: &[u8]) -> Bounds
     }
 }
 
-// No call is made.
-fn uncalled(next: Next, state: State) -> Played
-    ensures { λ r. ⌜ (r .next ≡ next) × (r .state ≡ state) ⌝ }
+// No call is made: nothing changes.
+fn uncalled(next: Next, s: State) -> Played
+    ensures { λ r. ⌜ (r .next ≡ next) × Tells s (λ o. o .state ≡ s) (r .effect) ⌝ }
 {
-    Played {
-        next,
+    let slots = s.slots;
+    let files = s.files;
+    let file = files[0];
+    let effect = Effect {
         answer: Answer::of(0),
-        state,
-    }
+        slots,
+        at: 0,
+        file,
+    };
+    Played { next, effect }
 }
 
 // 01 slot role.
 fn play_begin(s: State, rest: &[u8]) -> Played
     requires { ⌜ (0 < length (now rest)) × (getD (now rest) 0 0 ≡ 1) ⌝ }
-    ensures { λ r. ⌜ NextIs s (now (rest .entry)) (r .answer) (r .state) (r .next) ⌝ }
+    ensures { λ r. ⌜ PlayedIs s (now (rest .entry)) r ⌝ }
 {
     if rest.len() < 3 {
         return uncalled(Next::Cut, s);
     }
-    let done = gate::begin(s, rest[1], rest[2]);
-    let answer = done.answer;
-    let state = done.state;
     Played {
         next: Next::Whole(3),
-        answer,
-        state,
+        effect: gate::begin_effect(s, rest[1], rest[2]),
     }
 }
 
 // 02 slot.
 fn play_end(s: State, rest: &[u8]) -> Played
     requires { ⌜ (0 < length (now rest)) × (getD (now rest) 0 0 ≡ 2) ⌝ }
-    ensures { λ r. ⌜ NextIs s (now (rest .entry)) (r .answer) (r .state) (r .next) ⌝ }
+    ensures { λ r. ⌜ PlayedIs s (now (rest .entry)) r ⌝ }
 {
     if rest.len() < 2 {
         return uncalled(Next::Cut, s);
     }
-    let done = gate::end(s, rest[1]);
-    let answer = done.answer;
-    let state = done.state;
     Played {
         next: Next::Whole(2),
-        answer,
-        state,
+        effect: gate::end_effect(s, rest[1]),
     }
 }
 
 // 03 slot file mode.
 fn play_ask(s: State, rest: &[u8]) -> Played
     requires { ⌜ (0 < length (now rest)) × (getD (now rest) 0 0 ≡ 3) ⌝ }
-    ensures { λ r. ⌜ NextIs s (now (rest .entry)) (r .answer) (r .state) (r .next) ⌝ }
+    ensures { λ r. ⌜ PlayedIs s (now (rest .entry)) r ⌝ }
 {
     if rest.len() < 4 {
         return uncalled(Next::Cut, s);
     }
-    let answer = gate::ask(s, rest[1], rest[2], rest[3]);
     Played {
         next: Next::Whole(4),
-        answer,
-        state: s,
+        effect: gate::ask_effect(s, rest[1], rest[2], rest[3]),
     }
 }
 
-// 04 slot file mode, length byte and bytes, twice.
-fn play_change(s: State, rest: &[u8]) -> Played
-    requires { ⌜ (0 < length (now rest)) × (getD (now rest) 0 0 ≡ 4) ⌝ }
-    ensures { λ r. ⌜ NextIs s (now (rest .entry)) (r .answer) (r .state) (r .next) ⌝ }
+// change or bypass, by the code.
+fn store(s: State, code: u8, slot: u8, file: u8, mode: u8, x: &[u8], y: &[u8]) -> Effect
+    ensures { λ r. ⌜ Tells s (λ o. Step s (storeOf code slot file mode (now (x .entry)) (now (y .entry))) (o .answer) (o .state)) r ⌝ }
+{
+    if code == CHANGE {
+        return gate::change_effect(s, slot, file, mode, x, y);
+    }
+    gate::bypass_effect(s, slot, file, mode, x, y)
+}
+
+// 04 or 05 slot file mode, length byte and bytes, twice.
+fn play_store(s: State, rest: &[u8]) -> Played
+    requires { ⌜ (0 < length (now rest)) × (3 < getD (now rest) 0 0) × (getD (now rest) 0 0 < 6) ⌝ }
+    ensures { λ r. ⌜ PlayedIs s (now (rest .entry)) r ⌝ }
 {
     let found = bounds_in(rest);
     if !found.whole {
@@ -148,55 +165,24 @@ fn play_change(s: State, rest: &[u8]) -> Played
     let mid = found.mid;
     let from = mid + 1;
     let end = found.end;
-    let done = gate::change(
+    let effect = store(
         s,
+        rest[0],
         rest[1],
         rest[2],
         rest[3],
         &rest[5..mid],
         &rest[from..end],
     );
-    let answer = done.answer;
-    let state = done.state;
     Played {
         next: Next::Whole(end),
-        answer,
-        state,
-    }
-}
-
-// 05 slot file mode, length byte and bytes, twice.
-fn play_bypass(s: State, rest: &[u8]) -> Played
-    requires { ⌜ (0 < length (now rest)) × (getD (now rest) 0 0 ≡ 5) ⌝ }
-    ensures { λ r. ⌜ NextIs s (now (rest .entry)) (r .answer) (r .state) (r .next) ⌝ }
-{
-    let found = bounds_in(rest);
-    if !found.whole {
-        return uncalled(Next::Cut, s);
-    }
-    let mid = found.mid;
-    let from = mid + 1;
-    let end = found.end;
-    let done = gate::bypass(
-        s,
-        rest[1],
-        rest[2],
-        rest[3],
-        &rest[5..mid],
-        &rest[from..end],
-    );
-    let answer = done.answer;
-    let state = done.state;
-    Played {
-        next: Next::Whole(end),
-        answer,
-        state,
+        effect,
     }
 }
 
 // The next record of the input, run on the state.
 pub fn play(s: State, rest: &[u8]) -> Played
-    ensures { λ r. ⌜ NextIs s (now (rest .entry)) (r .answer) (r .state) (r .next) ⌝ }
+    ensures { λ r. ⌜ PlayedIs s (now (rest .entry)) r ⌝ }
 {
     if rest.len() == 0 {
         return uncalled(Next::Ended, s);
@@ -211,11 +197,127 @@ pub fn play(s: State, rest: &[u8]) -> Played
     if code == ASK {
         return play_ask(s, rest);
     }
-    if code == CHANGE {
-        return play_change(s, rest);
-    }
-    if code == BYPASS {
-        return play_bypass(s, rest);
+    if code == CHANGE || code == BYPASS {
+        return play_store(s, rest);
     }
     uncalled(Next::Cut, s)
+}
+
+// x after what the output holds, where it fits. One more than the room stands for all that does not fit.
+fn put(out: &mut [u8], n: usize, x: u8) -> usize
+    ensures { λ r. ⌜ Puts (x ∷ []) (now (out .entry)) n (now (out .exit)) r ⌝ }
+{
+    if n < out.len() {
+        out[n] = x;
+        return n + 1;
+    }
+    if n == out.len() {
+        return n + 1;
+    }
+    n
+}
+
+// The bytes w after what the output holds, as far as they fit.
+fn put_all(out: &mut [u8], n: usize, w: &[u8]) -> usize
+    ensures { λ r. ⌜ Puts (now (w .entry)) (now (out .entry)) n (now (out .exit)) r ⌝ }
+{
+    let mut k = n;
+    let mut i = 0;
+    while i < w.len() {
+        k = put(out, k, w[i]);
+        i += 1;
+    }
+    k
+}
+
+// The line of an answer after what the output holds.
+fn put_line(out: &mut [u8], n: usize, a: Answer) -> usize
+    ensures { λ r. ⌜ PutsLine a (now (out .entry)) n (now (out .exit)) r ⌝ }
+{
+    let mut line = [0u8; lines::PRINTED];
+    let long = lines::print(a, [0u8; 48], 0, &mut line);
+    put_all(out, n, &line[..long])
+}
+
+// What is printed of the next record: its answer's line, or `cut`, or nothing.
+fn tell(out: &mut [u8], n: usize, next: Next, a: Answer) -> Told
+    ensures { λ r. ⌜ ToldIs next a (now (out .entry)) n (now (out .exit)) r ⌝ }
+{
+    match next {
+        Next::Ended => Told {
+            n,
+            used: 0,
+            more: false,
+        },
+        Next::Cut => Told {
+            n: put_all(out, n, b"cut\n"),
+            used: 0,
+            more: false,
+        },
+        Next::Whole(k) => Told {
+            n: put_line(out, n, a),
+            used: k,
+            more: true,
+        },
+    }
+}
+
+// The records of the input from a place on, one after another, each on the state that the one before it left.
+fn play_all(state: State, input: &[u8], from: usize, out: &mut [u8], n: usize) -> usize
+    requires { ⌜ from ≤ length (now input) ⌝ }
+    ensures { λ r. ⌜ PlayedOn state (drop from (now (input .entry))) (now (out .entry)) n (now (out .exit)) r ⌝ }
+{
+    let mut s = state;
+    let mut at = from;
+    let mut k = n;
+    loop {
+        let played = play(s, &input[at..]);
+        let next = played.next;
+        let effect = played.effect;
+        let answer = effect.answer;
+        let told = tell(out, k, next, answer);
+        k = told.n;
+        if !told.more {
+            return k;
+        }
+        at += told.used;
+        let slots = effect.slots;
+        let i = effect.at;
+        let file = effect.file;
+        s.slots = slots;
+        s.files[i] = file;
+    }
+}
+
+// The stated length of an image, low byte first.
+pub fn stated_length(low: u8, high: u8) -> usize
+    ensures { λ r. ⌜ (r ≡ lowFirst low high) × (r < 65536) ⌝ }
+{
+    low as usize + 256 * (high as usize)
+}
+
+// The smaller of two.
+fn fewer(a: usize, b: usize) -> usize
+    ensures { λ r. ⌜ r ≡ min a b ⌝ }
+{
+    if a < b { a } else { b }
+}
+
+// A whole replay input, from the fresh state, into an output: how much is printed, or one more than the room where it does not fit.
+pub fn run(input: &[u8], out: &mut [u8]) -> usize
+    ensures { λ r. ⌜ Replays (now (input .entry)) (now (out .entry)) (now (out .exit)) r ⌝ }
+{
+    if input.len() < 2 {
+        return put_all(out, 0, b"cut\n");
+    }
+    let stated = stated_length(input[0], input[1]);
+    let have = fewer(stated, input.len() - 2);
+    let end = 2 + have;
+    let loaded = image::load(State::fresh(), &input[2..end]);
+    let n = put_line(out, 0, loaded.answer);
+    if have < stated {
+        return n;
+    }
+    let state = loaded.state;
+    play_all(state, input, end, out, n)
 }

@@ -1,10 +1,11 @@
 -- `replay::run` is safe and ends. The measure is the number of turns that are left. Assumes nothing.
-use mathlib.Core.Path.{_≡_, sym, _∙_}
+use mathlib.Core.Path.{_≡_}
 use mathlib.Core.List.{List, [], _∷_}
 use Prim.Native.Nat.{ℕ, zero, suc, _+_, _-_, _≤_, suc-le-suc}
 use native.Mathlib.Omega.{arith}
 use borrow.Author.Needs.{needs, zero≤}
 use lib.ListN.{length, take, drop}
+use Rattle.script.specs.PlayLaws.{few-bytes}
 use Rattle.replay.proofs.run.Statement.{statement}
 use Rattle.replay.proofs.run.Tie as tie
 
@@ -32,20 +33,29 @@ slice-aggregate-topped c = search needs
 topped-requires : tie.Need-topped-requires Inv-loop μ-loop
 topped-requires c κs = search needs
 
-sub-turn : tie.Need-sub-turn Inv-loop μ-loop
-sub-turn c = search needs
+sub-play : tie.Need-sub-play Inv-loop μ-loop
+sub-play c = search needs
 
-part-turn-start : tie.Need-part-turn-start Inv-loop μ-loop
-part-turn-start c = search needs
+part-play-start : tie.Need-part-play-start Inv-loop μ-loop
+part-play-start c = search needs
 
-part-turn-end : tie.Need-part-turn-end Inv-loop μ-loop
-part-turn-end c = omega (arith, c .before .before .topped .ensures .1, c .before .before .topped .kept .0)
+part-play-end : tie.Need-part-play-end Inv-loop μ-loop
+part-play-end c = omega (arith, c .before .before .topped .ensures .1, c .before .before .topped .kept .0)
+
+play-requires : tie.Need-play-requires Inv-loop μ-loop
+play-requires c κs = search needs
 
 turn-requires : tie.Need-turn-requires Inv-loop μ-loop
 turn-requires c κs = search needs
 
 add-from : tie.Need-add-from Inv-loop μ-loop
-add-from c = omega (arith, c .before .turn .ensures, take-most (c .before .before .before .before .before .topped .result .n - c .before .before .before .before .before .topped .result .at) (drop (c .before .before .before .before .before .topped .result .at) (c .before .before .before .before .before .topped .last .0)), c .before .before .before .before .before .topped .ensures .0, c .before .before .before .before .before .topped .ensures .1)
+add-from c = omega (arith, c .before .turn .ensures, few-bytes _ _ (c .before .before .before .before .play .result) (c .before .before .before .before .play .ensures), take-most (c .before .before .before .before .before .before .before .before .topped .result .n - c .before .before .before .before .before .before .before .before .topped .result .at) (drop (c .before .before .before .before .before .before .before .before .topped .result .at) (c .before .before .before .before .before .before .before .before .topped .last .0)), c .before .before .before .before .before .before .before .before .topped .ensures .0, c .before .before .before .before .before .before .before .before .topped .ensures .1)
+
+mul-file : tie.Need-mul-file Inv-loop μ-loop
+mul-file c = omega (arith, c .before .before .before .before .before .before .play .ensures .within)
+
+element-set-from-file : tie.Need-element-set-from-file Inv-loop μ-loop
+element-set-from-file c = c .before .before .before .before .before .before .play .ensures .within
 
 sub-turns : tie.Need-sub-turns Inv-loop μ-loop
 sub-turns c = search needs
@@ -54,7 +64,7 @@ loop-less : tie.Need-loop-less Inv-loop μ-loop
 loop-less c = search needs
 
 loop-again : tie.Need-loop-again Inv-loop μ-loop
-loop-again c = (omega (arith, c .before .before .turn .ensures, take-most (c .before .before .before .before .before .before .topped .result .n - c .before .before .before .before .before .before .topped .result .at) (drop (c .before .before .before .before .before .before .topped .result .at) (c .before .before .before .before .before .before .topped .last .0)), c .before .before .before .before .before .before .topped .ensures .0, c .before .before .before .before .before .before .topped .ensures .1), omega (arith, c .before .before .before .before .before .before .topped .ensures .1), omega (arith, c .before .before .before .before .before .before .topped .kept .0))
+loop-again c = (omega (arith, c .before .before .before .turn .ensures, few-bytes _ _ (c .before .before .before .before .before .before .play .result) (c .before .before .before .before .before .before .play .ensures), take-most (c .before .before .before .before .before .before .before .before .before .before .topped .result .n - c .before .before .before .before .before .before .before .before .before .before .topped .result .at) (drop (c .before .before .before .before .before .before .before .before .before .before .topped .result .at) (c .before .before .before .before .before .before .before .before .before .before .topped .last .0)), c .before .before .before .before .before .before .before .before .before .before .topped .ensures .0, c .before .before .before .before .before .before .before .before .before .before .topped .ensures .1), omega (arith, c .before .before .before .before .before .before .before .before .before .before .topped .ensures .1), omega (arith, c .before .before .before .before .before .before .before .before .before .before .topped .kept .0))
 
 returns : tie.Need-returns Inv-loop μ-loop
 returns c = search needs
@@ -72,11 +82,14 @@ run-spec =
     loop-holds
     slice-aggregate-topped
     topped-requires
-    sub-turn
-    part-turn-start
-    part-turn-end
+    sub-play
+    part-play-start
+    part-play-end
+    play-requires
     turn-requires
     add-from
+    mul-file
+    element-set-from-file
     sub-turns
     loop-less
     loop-again

@@ -1,5 +1,9 @@
 -- `script::play` meets its contract: the code says which record it is. Assumes nothing.
+use mathlib.Core.Path.{_≡_}
+use mathlib.Core.Logic.{⊎-elim}
 use native.Mathlib.Omega.{arith}
+use lib.ListN.{getD}
+use borrow.Author.Tests.{eqb-true, eqb-false}
 use Rattle.expression.specs.Scan.{nil-of}
 use Rattle.script.specs.Records.{no-code}
 use Rattle.script.specs.PlayLaws.{says-cut, says-ended}
@@ -11,7 +15,7 @@ uncalled-requires : tie.Need-uncalled-requires
 uncalled-requires c κs = search needs
 
 returns : tie.Need-returns
-returns c = says-ended _ _ _ _ _ (c .uncalled .ensures .0) (nil-of _ (c .before .if1 .taken))
+returns c = says-ended _ _ _ (c .uncalled .ensures .1) (c .uncalled .ensures .0) (nil-of _ (c .before .if1 .taken))
 
 shared-slice-read-code : tie.Need-shared-slice-read-code
 shared-slice-read-code c = search needs
@@ -34,25 +38,17 @@ play-ask-requires c κs = search needs
 returns-4 : tie.Need-returns-4
 returns-4 c = search needs
 
-play-change-requires : tie.Need-play-change-requires
-play-change-requires c κs = search needs
+play-store-requires : tie.Need-play-store-requires
+play-store-requires c κs = ⊎-elim (λ w. let e = w .taken in (omega arith, omega arith, omega arith)) (λ w. let e : getD (c .before .before .before .before .before .before .before .args .rest .now) 0 0 ≡ 5 = eqb-true _ 5 (w .1 .taken) in (omega arith, omega arith, omega arith)) (c .if5 .came)
 
 returns-5 : tie.Need-returns-5
 returns-5 c = search needs
 
-play-bypass-requires : tie.Need-play-bypass-requires
-play-bypass-requires c κs = search needs
-
-returns-6 : tie.Need-returns-6
-returns-6 c = search needs
-
 uncalled-requires-2 : tie.Need-uncalled-requires-2
 uncalled-requires-2 c κs = search needs
 
-returns-7 : tie.Need-returns-7
-returns-7 c =
-    says-cut _ _ _ _ _ (c .uncalled2 .ensures .0) (omega arith)
-    (no-code _ (c .before .before .before .before .before .if2 .left) (c .before .before .before .before .if3 .left) (c .before .before .before .if4 .left) (c .before .before .if5 .left) (c .before .if6 .left))
+returns-6 : tie.Need-returns-6
+returns-6 c = says-cut _ _ _ (c .uncalled2 .ensures .1) (c .uncalled2 .ensures .0) (omega arith) (no-code _ (c .before .before .before .before .before .if2 .left) (c .before .before .before .before .if3 .left) (c .before .before .before .if4 .left) (c .before .before .if5 .left) (eqb-false _ 5 (c .before .if6 .left)))
 
 pub play-spec : {M : Type 1} → statement M
 play-spec =
@@ -67,9 +63,7 @@ play-spec =
     returns-3
     play-ask-requires
     returns-4
-    play-change-requires
+    play-store-requires
     returns-5
-    play-bypass-requires
-    returns-6
     uncalled-requires-2
-    returns-7)
+    returns-6)

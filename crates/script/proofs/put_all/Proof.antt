@@ -1,0 +1,57 @@
+-- `script::put_all` meets its contract: what was passed of the bytes is written. The measure is what is left of them. Assumes nothing.
+use mathlib.Core.Path.{_≡_, subst}
+use mathlib.Core.List.{List}
+use Prim.Native.Nat.{ℕ, _≤_, _-_}
+use lib.ListN.{length, take}
+use lib.Seq.{take-all}
+use borrow.Author.Needs.{needs}
+use native.Mathlib.Omega.{arith}
+use Rattle.script.specs.Playing.{Puts}
+use Rattle.script.specs.FillLaws.{puts-none, puts-more}
+use Rattle.script.proofs.put_all.Statement.{statement}
+use Rattle.script.proofs.put_all.Tie as tie
+
+abbrev Inv-loop : tie.InvT-loop
+Inv-loop out₀ n w k₀ i₀ out k i = (i ≤ length w) × (length out ≡ length out₀) × Puts (take i w) out₀ n out k
+
+abbrev μ-loop : tie.MeasureT-loop
+μ-loop out₀ n w k₀ i₀ out k i = length w - i
+
+loop-holds : tie.Need-loop-holds Inv-loop μ-loop
+loop-holds c = (omega arith, search needs, puts-none _ _)
+
+shared-slice-read-put : tie.Need-shared-slice-read-put Inv-loop μ-loop
+shared-slice-read-put c = omega arith
+
+put-requires : tie.Need-put-requires Inv-loop μ-loop
+put-requires c κs = search needs
+
+add-i : tie.Need-add-i Inv-loop μ-loop
+add-i c = omega arith
+
+loop-less : tie.Need-loop-less Inv-loop μ-loop
+loop-less c = omega arith
+
+loop-again : tie.Need-loop-again Inv-loop μ-loop
+loop-again c = (omega arith, search needs, puts-more (c .before .before .before .before .before .before .before .before .before .args .w .now) _ _ _ _ _ _ (c .before .before .before .before .before .before .loop .i) (omega arith) (c .before .before .before .before .before .before .loop .inv .2) (c .before .before .put .ensures))
+
+same-length : tie.Need-same-length Inv-loop μ-loop
+same-length c = search needs
+
+returns : tie.Need-returns Inv-loop μ-loop
+returns c = let v = c .before .loop .inv in subst (λ (l : List ℕ). Puts l (c .before .before .before .before .args .out .now) (c .before .before .before .before .args .n) (c .before .loop .out) (c .before .loop .k)) (take-all (c .before .loop .i) (c .before .before .before .before .args .w .now) (omega arith)) (v .2)
+
+pub put-all-spec : {M : Type 1} → statement M
+put-all-spec =
+    tie.close
+    (tie.spec
+    Inv-loop
+    μ-loop
+    loop-holds
+    shared-slice-read-put
+    put-requires
+    add-i
+    loop-less
+    loop-again
+    same-length
+    returns)

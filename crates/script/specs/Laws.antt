@@ -1,0 +1,123 @@
+-- An input prints one thing, and fills an output in one way. Assumes nothing.
+use mathlib.Core.Path.{_≡_, refl, sym, ap, ap₂, _∙_, subst}
+use mathlib.Core.Bool.{cond}
+use mathlib.Core.List.{List, [], _∷_, _++_}
+use mathlib.Core.Logic.{inl, inr}
+use Prim.Native.Nat.{ℕ, _+_, _<_, _≤_}
+use native.Mathlib.Decide.{decLe}
+use native.Mathlib.Omega.{arith}
+use lib.Dec.{eqb}
+use lib.ListN.{length, getD, take, drop}
+use lib.Seq.{take-append-seam, drop-append-seam, drop-append-add, drop-drop}
+use Rattle.answer.specs.declared.Answer.{Answer}
+use Rattle.policy.specs.declared.State.{State}
+use Rattle.policy.specs.State.{freshState}
+use Rattle.image.specs.Image.{expressionBytes}
+use Rattle.claims.specs.Trace.{Request, load, begin, end, ask, change, bypass, Step}
+use Rattle.claims.specs.Demand1.{Same, one-answer-and-one-state}
+use Rattle.lines.specs.Lines.{Line}
+use Rattle.lines.specs.Laws.{one-line}
+use Rattle.script.specs.Script.{Reads, a-begin, an-end, an-ask, a-change, a-bypass, Plays, ended, called, cut, Loaded, Prints, stated, imageIn, over, Filled, Replays}
+use Rattle.script.specs.Records.{secondAt, endAt, firstOf, secondOf, storeIn, second-length}
+
+-- ---- one record
+-- the request that the bytes have, and what is left after it, by their code
+abbrev requestIn : ℕ → List ℕ → Request
+requestIn code bs =
+    cond (eqb code 1) (begin (getD bs 1 0) (getD bs 2 0))
+    (cond (eqb code 2) (end (getD bs 1 0))
+    (cond (eqb code 3) (ask (getD bs 1 0) (getD bs 2 0) (getD bs 3 0))
+    (storeIn code bs)))
+
+abbrev restIn : ℕ → List ℕ → List ℕ
+restIn code bs = cond (eqb code 1) (drop 3 bs) (cond (eqb code 2) (drop 2 bs) (cond (eqb code 3) (drop 4 bs) (drop (endAt bs) bs)))
+
+-- the parts of a record 04 or 05
+module _ (c slot file mode : ℕ) (x y rest bs : List ℕ) (e : bs ≡ c ∷ slot ∷ file ∷ mode ∷ (expressionBytes x ++ (expressionBytes y ++ rest))) where
+  second-is : drop (secondAt bs + 1) bs ≡ y ++ rest
+  second-is =
+      let a : getD bs 4 0 ≡ length x = ap (λ (l : List ℕ). getD l 4 0) e in
+      let n : secondAt bs + 1 ≡ 5 + (length x + 1) = omega arith in
+      ap (λ (k : ℕ). drop k bs) n ∙ sym (drop-drop (length x + 1) 5 bs) ∙ ap (λ (l : List ℕ). drop (length x + 1) (drop 5 l)) e ∙ drop-append-add x (length y ∷ (y ++ rest)) 1
+
+  x-is : x ≡ firstOf bs
+  x-is = sym (ap (λ (l : List ℕ). firstOf l) e ∙ take-append-seam x (length y ∷ (y ++ rest)))
+
+  y-is : y ≡ secondOf bs
+  y-is = sym (ap₂ take (second-length c slot file mode x y rest bs e) second-is ∙ take-append-seam y rest)
+
+  rest-is : rest ≡ drop (endAt bs) bs
+  rest-is =
+      sym
+      (ap (λ (k : ℕ). drop (secondAt bs + 1 + k) bs) (second-length c slot file mode x y rest bs e) ∙ sym (drop-drop (length y) (secondAt bs + 1) bs) ∙ ap (drop (length y)) second-is
+      ∙ drop-append-seam y rest)
+
+reads-request : {bs rest : List ℕ} {q : Request} → Reads bs q rest → q ≡ requestIn (getD bs 0 0) bs
+reads-request a-begin = refl
+reads-request an-end = refl
+reads-request an-ask = refl
+reads-request {rest = rest} (a-change {slot} {file} {mode} {x} {y}) = ap₂ (change slot file mode) (x-is 4 slot file mode x y rest _ refl) (y-is 4 slot file mode x y rest _ refl)
+reads-request {rest = rest} (a-bypass {slot} {file} {mode} {x} {y}) = ap₂ (bypass slot file mode) (x-is 5 slot file mode x y rest _ refl) (y-is 5 slot file mode x y rest _ refl)
+
+reads-rest : {bs rest : List ℕ} {q : Request} → Reads bs q rest → rest ≡ restIn (getD bs 0 0) bs
+reads-rest a-begin = refl
+reads-rest an-end = refl
+reads-rest an-ask = refl
+reads-rest {rest = rest} (a-change {slot} {file} {mode} {x} {y}) = rest-is 4 slot file mode x y rest _ refl
+reads-rest {rest = rest} (a-bypass {slot} {file} {mode} {x} {y}) = rest-is 5 slot file mode x y rest _ refl
+
+-- one record stands at the front, and one rest after it
+pub one-record : {bs r u : List ℕ} {q p : Request} → Reads bs q r → Reads bs p u → (q ≡ p) × (r ≡ u)
+one-record x y = (reads-request x ∙ sym (reads-request y), reads-rest x ∙ sym (reads-rest y))
+
+none-in : {bs r : List ℕ} {q : Request} → Reads bs q r → bs ≡ [] → ⊥
+none-in a-begin e = let z = ap length e in omega arith
+none-in an-end e = let z = ap length e in omega arith
+none-in an-ask e = let z = ap length e in omega arith
+none-in a-change e = let z = ap length e in omega arith
+none-in a-bypass e = let z = ap length e in omega arith
+
+-- ---- one output
+one-step : (s t u : State) (q p : Request) (a b : Answer) → Step s q a t → Step s p b u → q ≡ p → Same a b t u
+one-step s t u q p a b x y e = one-answer-and-one-state s q a b t u x (subst (λ (o : Request). Step s o b u) (sym e) y)
+
+same-line : {a b : Answer} {l m : List ℕ} → Line a [] l → Line b [] m → a ≡ b → l ≡ m
+same-line {m = m} x y e = one-line x (subst (λ (o : Answer). Line o [] m) (sym e) y)
+
+pub one-play : {s : State} {bs p q : List ℕ} → Plays s bs p → Plays s bs q → p ≡ q
+one-play ended ended = refl
+one-play ended (called r w l p) = absurd (none-in r refl)
+one-play ended (cut n none) = absurd (n refl)
+one-play (called r w l p) ended = absurd (none-in r refl)
+one-play {s} (called {t = t} {rest = left} {q = o} {a = a} r w l p) (called {t = t₂} {printed = z} {q = o₂} {a = a₂} r₂ w₂ l₂ p₂) =
+    let e = one-record r r₂ in
+    let d = one-step s t t₂ o o₂ a a₂ w w₂ (e .0) in
+    ap₂ _++_ (same-line l l₂ (d .answer)) (one-play p (subst (λ (u : State). Plays u left z) (sym (d .state)) (subst (λ (u : List ℕ). Plays t₂ u z) (sym (e .1)) p₂)))
+one-play (called r w l p) (cut n none) = absurd (none _ _ r)
+one-play (cut n none) ended = absurd (n refl)
+one-play (cut n none) (called r w l p) = absurd (none _ _ r)
+one-play (cut n none) (cut m none₂) = refl
+
+-- for every input there is one output
+pub one-printed : {input p q : List ℕ} → Prints input p → Prints input q → p ≡ q
+one-printed (inl x) (inl y) = x .1 ∙ sym (y .1)
+one-printed (inl x) (inr y) = absurd (omega (arith, x .0, y .two))
+one-printed (inr x) (inl y) = absurd (omega (arith, y .0, x .two))
+one-printed {input} (inr x) (inr y) =
+    let d = one-answer-and-one-state freshState (load (imageIn input)) (x .answer) (y .answer) (x .state) (y .state) (x .loads) (y .loads) in
+    x .is ∙ ap₂ _++_ (same-line (x .is-line) (y .is-line) (d .answer)) (go (d .state) (decLe (2 + stated input) (length input))) ∙ sym (y .is)
+  where
+    go : x .state ≡ y .state → Dec (2 + stated input ≤ length input) → x .rest ≡ y .rest
+    go e (yes h) = one-play (x .whole h) (subst (λ (o : State). Plays o (drop (2 + stated input) input) (y .rest)) (sym e) (y .whole h))
+    go e (no n) = x .short (omega arith) ∙ sym (y .short (omega arith))
+
+-- and it fills an output in one way
+pub one-replay : {input before x y : List ℕ} {r s : ℕ} → Replays input before x r → Replays input before y s → (x ≡ y) × (r ≡ s)
+one-replay {before = before} {r = r} {s = s} p q =
+    let e : p .printed ≡ q .printed = one-printed (p .prints) (q .prints) in
+    let l : length (p .printed) ≡ length (q .printed) = ap length e in
+    (p .filled .is ∙ ap (λ (w : List ℕ). over w before) e ∙ sym (q .filled .is), go l (decLe (length (p .printed)) (length before)))
+  where
+    go : length (p .printed) ≡ length (q .printed) → Dec (length (p .printed) ≤ length before) → r ≡ s
+    go l (yes h) = p .filled .fits h ∙ l ∙ sym (q .filled .fits (omega arith))
+    go l (no n) = p .filled .full (omega arith) ∙ sym (q .filled .full (omega arith))
