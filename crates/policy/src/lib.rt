@@ -392,24 +392,17 @@ pub fn stored<'a>(lens: &'a [u8], bytes: &'a [u8], k: usize) -> &'a [u8]
     &bytes[start..end]
 }
 
-// The byte at i, and zero past the end.
-fn byte_or_zero(x: &[u8], i: usize) -> u8
-    ensures { λ r. ⌜ r ≡ getD (now (x .entry)) i 0 ⌝ }
-{
-    if i < x.len() {
-        return x[i];
-    }
-    0
-}
-
 // Stores the bytes of x at place k of a shelf, and zero past them; all else stays.
 pub fn put_bytes(bytes: &mut [u8], k: usize, x: &[u8])
     requires { ⌜ (length (now x) ≤ longest) × (longest * k + longest ≤ length (now bytes)) ⌝ }
     ensures { λ r. ⌜ now (bytes .exit) ≡ putBytes (now (bytes .entry)) k (now (x .entry)) ⌝ }
 {
     let at = LONGEST * k;
-    for i in 0..LONGEST {
-        bytes[at + i] = byte_or_zero(x, i);
+    for i in 0..x.len() {
+        bytes[at + i] = x[i];
+    }
+    for j in x.len()..LONGEST {
+        bytes[at + j] = 0;
     }
 }
 
