@@ -33,6 +33,9 @@ fn main() {
     println!("\n| policy | load of an image | library, ns | MB/s | twin, ns | MB/s | ratio |");
     println!("|---|---|---|---|---|---|---|");
     loads.iter().for_each(|line| println!("{line}"));
+    println!("\n| roles | files | bytes of each expression | ask by the library, ns | by the twin, ns | ratio |");
+    println!("|---|---|---|---|---|---|");
+    growth(passes);
     println!("\n| text | bytes | library, MB/s | twin, MB/s | ratio |");
     println!("|---|---|---|---|---|");
     texts(passes);
@@ -64,6 +67,34 @@ fn inputs(timed: &Timed, last: u8) -> Vec<Vec<u8>> {
     ];
     let whole = |records: &Vec<u8>| input(&timed.image, records);
     records.iter().map(whole).collect()
+}
+
+/// Times an ask on policies that grow, and prints a line for each.
+fn growth(passes: usize) {
+    let sizes = [
+        (1, 1, 0),
+        (32, 1, 0),
+        (1, 32, 0),
+        (32, 32, 0),
+        (8, 8, 8),
+        (32, 32, 4),
+        (32, 32, 8),
+        (32, 32, 16),
+    ];
+    for (roles, files, terms) in sizes {
+        let image = policies::grown(roles, files, terms);
+        let begun = [1, 0, 0];
+        let without = input(&image, &begun);
+        let with = input(&image, &[&begun[..], &[3, 0, 0, 0].repeat(MANY)].concat());
+        let samples = in_turn(passes, &mut [sides(&without), sides(&with)]);
+        let [library, twin] = [0, 1].map(|side| {
+            let [without, with] = [0, 1].map(|which| samples[which][side].best_and_median()[0]);
+            (with - without) / MANY as f64
+        });
+        let bytes = (3 * terms).saturating_sub(1);
+        let ratio = library / twin;
+        println!("| {roles} | {files} | {bytes} | {library:.0} | {twin:.0} | {ratio:.2} |");
+    }
 }
 
 /// Times a policy's calls, prints a line for each request, and gives the load's.

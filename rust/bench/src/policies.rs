@@ -1,4 +1,5 @@
-//! The three policies that are timed, with a granted and a refused ask of each.
+//! The three policies that are timed, with a granted and a refused ask of each; and policies as
+//! large as asked.
 
 use twin::image::Policy;
 
@@ -87,6 +88,22 @@ pub fn typical() -> Timed {
         files: (0..12).map(file).collect(),
     };
     Timed::new("typical", &policy, [1, 0, 0])
+}
+
+/// The image of a policy that is as large as asked: so many roles and files, every expression so
+/// many of eight securons joined by AND, each two bytes and one for its AND.
+pub fn grown(roles: usize, files: usize, terms: usize) -> Vec<u8> {
+    let securons: Vec<u8> = (0..terms).map(|k| (k % 8) as u8).collect();
+    let expression = match terms {
+        0 => vec![],
+        _ => all_of(&securons),
+    };
+    let policy = Policy {
+        parents: vec![0; 7],
+        roles: vec![std::array::from_fn(|_| expression.clone()); roles],
+        files: vec![std::array::from_fn(|_| expression.clone()); files],
+    };
+    policy.to_image()
 }
 
 /// Some of the securons 5 to 16.
