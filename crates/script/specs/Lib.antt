@@ -4,3 +4,4 @@ pub mod Playing
 pub mod PlayLaws
 pub mod FillLaws
 pub mod Laws
+pub mod Bound
