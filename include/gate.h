@@ -62,7 +62,7 @@ static inline uint32_t gate_place(uint32_t answer) { return answer / 256; }
  * the program `replay` prints to the front of `out`, as far as it fits, and leaves the rest of
  * `out` as it was. Returns the length of the whole output, or `out_len` + 1 where the output does
  * not fit; then `out` has its first `out_len` bytes. An output never has more than
- * 12 + 3 * input_len bytes.
+ * 4 + 3 * input_len bytes, which is proved too.
  *
  * A line of the output is a number, a space and a place, or `cut`. By the call that it answers:
  *

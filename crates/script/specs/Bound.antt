@@ -215,8 +215,8 @@ load-line {a} bs before after w x =
     let i = gives-inside bs o a (stays-whole bs 0 o (omega arith) p) g in
     omega (arith, i .1, line-length 0 (a .place) (i .0) (under-power (a .place)) x)
 
--- an output has at most twelve bytes, and three for each byte of the input
-pub short-output : {input printed : List ℕ} → Prints input printed → length printed ≤ 12 + 3 * length input
+-- an output has at most four bytes, and three for each byte of the input
+pub short-output : {input printed : List ℕ} → Prints input printed → length printed ≤ 4 + 3 * length input
 short-output (inl x) = omega (arith, ap length (x .1))
 short-output {input} (inr x) =
     omega (arith, ap length (x .is) ∙ length-append (x .line) (x .rest), load-line (imageIn input) freshState (x .state) (x .loads) (x .is-line), go (decLe (2 + stated input) (length input)))
@@ -227,6 +227,6 @@ short-output {input} (inr x) =
         let j = length-drop 2 input in
         (omega arith, omega arith)
 
-    go : Dec (2 + stated input ≤ length input) → length (imageIn input) + length (x .rest) ≤ 8 + 3 * length input
+    go : Dec (2 + stated input ≤ length input) → length (imageIn input) + length (x .rest) ≤ 3 * length input
     go (yes h) = omega (arith, image .0, play-length (x .whole h), length-drop (2 + stated input) input)
     go (no n) = omega (arith, image .1, ap length (x .short (omega arith)))

@@ -54,12 +54,12 @@ pub fn replay_into(input: &[u8], out: &mut [u8]) -> Result<usize, TooShort> {
 
 /// As many bytes as the output for an input of this length can have at most.
 ///
-/// The load's line has at most 8 bytes (a number under 10, a place under 65,536) and `cut` has 4
-/// with its line end. A record of two bytes prints at most 5 (two digits, a space, 0, a line end),
-/// so 3 for each of its bytes are enough; so are they for begin and ask, of three and four bytes.
-/// A change or a bypass has six bytes or more and prints at most 6 (`6 304` and a line end).
+/// That is proved (`short-output` in the crate `script`). In short: `cut` has 4 with its line end
+/// and comes once. A record of two bytes prints at most 5 (two digits, a space, 0, a line end), so
+/// 3 for each of its bytes are enough, and so are they for the others. The load's line has a digit
+/// and a place that is no longer than the image.
 pub fn longest_output(input_length: usize) -> usize {
-    input_length.saturating_mul(3).saturating_add(12)
+    input_length.saturating_mul(3).saturating_add(4)
 }
 
 /// Turns the text of an expression to bytes at the front of `out` (01, "In text"): done, the
