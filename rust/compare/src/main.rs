@@ -1,6 +1,7 @@
 //! The proved library against its twin, on drawn calls from fixed seeds, in one process.
 //!
 //!     compare [--long] [--seed N] [--times N]     all parts; --long makes forty times the rounds
+//!     compare --program PATH [--seed N]           the program `replay` there, on long inputs
 //!     compare --replay < HEX                      one input, both outputs
 //!     compare --text < HEX                        one text, both answers
 //!
@@ -11,6 +12,7 @@ mod calls;
 mod draw;
 mod parts;
 mod policies;
+mod program;
 mod records;
 mod runner;
 mod tally;
@@ -31,6 +33,10 @@ fn main() -> ExitCode {
     let words: Vec<String> = std::env::args().skip(1).collect();
     let done = match words.first().map(String::as_str) {
         Some(which @ ("--replay" | "--text")) => one(which),
+        Some("--program") => match words.get(1) {
+            Some(path) => options(&words[2..]).and_then(|(seed, _)| program::compare(path, seed)),
+            None => Err("--program needs a path".to_string()),
+        },
         _ => options(&words).and_then(|(seed, times)| run(seed, times)),
     };
     match done {
