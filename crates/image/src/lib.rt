@@ -103,10 +103,10 @@ fn wide(x: u8) -> usize
 }
 
 // A number of 16 bits, low byte first.
-fn low_first(low: u8, high: u8) -> usize
-    ensures { λ r. ⌜ r ≡ lowFirst low high ⌝ }
+pub fn low_first(low: u8, high: u8) -> usize
+    ensures { λ r. ⌜ (r ≡ lowFirst low high) × (r < 65536) ⌝ }
 {
-    wide(low) + 256 * wide(high)
+    low as usize + 256 * (high as usize)
 }
 
 // A byte that is not read; `low` stands for its value.

@@ -7,7 +7,6 @@ ghost use mathlib.Core.Bool.{Bool, true, false};
 ghost use mathlib.Core.List.{List, [], _∷_};
 ghost use Prim.Native.Nat.{ℕ, _+_, _<_, _≤_, min};
 ghost use lib.ListN.{length, getD, drop};
-ghost use Rattle.image.specs.Image.{lowFirst};
 ghost use Rattle.gate.specs.Effects.{Tells};
 ghost use Rattle.claims.specs.Trace.{Step};
 ghost use Rattle.script.specs.Script.{Replays};
@@ -289,13 +288,6 @@ fn play_all(state: State, input: &[u8], from: usize, out: &mut [u8], n: usize) -
     }
 }
 
-// The stated length of an image, low byte first.
-pub fn stated_length(low: u8, high: u8) -> usize
-    ensures { λ r. ⌜ (r ≡ lowFirst low high) × (r < 65536) ⌝ }
-{
-    low as usize + 256 * (high as usize)
-}
-
 // The smaller of two.
 fn fewer(a: usize, b: usize) -> usize
     ensures { λ r. ⌜ r ≡ min a b ⌝ }
@@ -310,7 +302,7 @@ pub fn run(input: &[u8], out: &mut [u8]) -> usize
     if input.len() < 2 {
         return put_all(out, 0, b"cut\n");
     }
-    let stated = stated_length(input[0], input[1]);
+    let stated = image::low_first(input[0], input[1]);
     let have = fewer(stated, input.len() - 2);
     let end = 2 + have;
     let loaded = image::load(State::fresh(), &input[2..end]);

@@ -39,10 +39,10 @@ add-t13 : tie.Need-add-t13
 add-t13 c = search needs
 
 returns-4 : tie.Need-returns-4
-returns-4 c = follows-read Version _ (c .before .before .before .before .before .before .before .from .given .1) (inr (omega arith, inl (sym (c .before .low-first .ensures) ∙ c .if3 .taken, refl)))
+returns-4 c = follows-read Version _ (c .before .before .before .before .before .before .before .from .given .1) (inr (omega arith, inl (sym (c .before .low-first .ensures .0) ∙ c .if3 .taken, refl)))
 
 returns-5 : tie.Need-returns-5
-returns-5 c = follows-read Version _ (c .before .before .before .before .before .before .before .from .given .1) (inr (omega arith, inr ((λ h. c .if3 .left (c .before .low-first .ensures ∙ h)), refl)))
+returns-5 c = follows-read Version _ (c .before .before .before .before .before .before .before .from .given .1) (inr (omega arith, inr ((λ h. c .if3 .left (c .before .low-first .ensures .0 ∙ h)), refl)))
 
 pub read-version-spec : {M : Type 1} → statement M
 read-version-spec =

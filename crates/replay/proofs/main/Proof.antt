@@ -22,14 +22,14 @@ write-all-requires c κs = search needs
 returns : tie.Need-returns
 returns c = search needs
 
-array-read-stated-length : tie.Need-array-read-stated-length
-array-read-stated-length c = search needs
+array-read-low-first : tie.Need-array-read-low-first
+array-read-low-first c = search needs
 
-array-read-stated-length-2 : tie.Need-array-read-stated-length-2
-array-read-stated-length-2 c = search needs
+array-read-low-first-2 : tie.Need-array-read-low-first-2
+array-read-low-first-2 c = search needs
 
-stated-length-requires : tie.Need-stated-length-requires
-stated-length-requires c κs = search needs
+low-first-requires : tie.Need-low-first-requires
+low-first-requires c κs = search needs
 
 large-buffer-requires : tie.Need-large-buffer-requires
 large-buffer-requires c κs = search needs
@@ -38,7 +38,7 @@ array-borrow-prefix-bytes : tie.Need-array-borrow-prefix-bytes
 array-borrow-prefix-bytes c = search needs
 
 slice-aggregate-read-full-2 : tie.Need-slice-aggregate-read-full-2
-slice-aggregate-read-full-2 c = sym (length-take-le _ _ (omega (arith, c .before .before .stated-length .ensures .1, c .before .large-buffer .ensures)))
+slice-aggregate-read-full-2 c = sym (length-take-le _ _ (omega (arith, c .before .before .low-first .ensures .1, c .before .large-buffer .ensures)))
 
 read-full-requires-2 : tie.Need-read-full-requires-2
 read-full-requires-2 c κs = search needs
@@ -76,9 +76,9 @@ main-spec =
     slice-aggregate-write-all
     write-all-requires
     returns
-    array-read-stated-length
-    array-read-stated-length-2
-    stated-length-requires
+    array-read-low-first
+    array-read-low-first-2
+    low-first-requires
     large-buffer-requires
     array-borrow-prefix-bytes
     slice-aggregate-read-full-2

@@ -21,14 +21,14 @@ same-length c = search needs
 returns : tie.Need-returns
 returns c = only-cut _ _ _ _ (c .before .before .before .before .before .if1 .taken) (c .before .before .put-all .ensures)
 
-shared-slice-read-stated-length : tie.Need-shared-slice-read-stated-length
-shared-slice-read-stated-length c = search needs
+shared-slice-read-low-first : tie.Need-shared-slice-read-low-first
+shared-slice-read-low-first c = search needs
 
-shared-slice-read-stated-length-2 : tie.Need-shared-slice-read-stated-length-2
-shared-slice-read-stated-length-2 c = search needs
+shared-slice-read-low-first-2 : tie.Need-shared-slice-read-low-first-2
+shared-slice-read-low-first-2 c = search needs
 
-stated-length-requires : tie.Need-stated-length-requires
-stated-length-requires c κs = search needs
+low-first-requires : tie.Need-low-first-requires
+low-first-requires c κs = search needs
 
 sub-fewer : tie.Need-sub-fewer
 sub-fewer c = search needs
@@ -66,8 +66,8 @@ returns-2 c =
     let have = c .before .before .before .before .before .before .before .before .fewer in
     let fresh = c .before .before .before .before .before .before .before .fresh in
     let load = c .before .before .before .before .before .load in
-    let e : have .result ≡ min (stated i) (length i - 2) = have .ensures ∙ ap (λ (x : ℕ). min x (length i - 2)) (c .before .before .before .before .before .before .before .before .before .stated-length .ensures .0) in
-    image-short i (omega (arith, c .before .before .before .before .before .before .before .before .before .before .before .before .if1 .left)) (2 + have .result) (ap (λ (x : ℕ). 2 + x) e) (fresh .result) (fresh .ensures) (load .result) (load .ensures) _ _ _ (c .before .before .before .put-line .ensures) (omega (arith, c .if2 .taken, c .before .before .before .before .before .before .before .before .before .stated-length .ensures .0))
+    let e : have .result ≡ min (stated i) (length i - 2) = have .ensures ∙ ap (λ (x : ℕ). min x (length i - 2)) (c .before .before .before .before .before .before .before .before .before .low-first .ensures .0) in
+    image-short i (omega (arith, c .before .before .before .before .before .before .before .before .before .before .before .before .if1 .left)) (2 + have .result) (ap (λ (x : ℕ). 2 + x) e) (fresh .result) (fresh .ensures) (load .result) (load .ensures) _ _ _ (c .before .before .before .put-line .ensures) (omega (arith, c .if2 .taken, c .before .before .before .before .before .before .before .before .before .low-first .ensures .0))
 
 play-all-requires : tie.Need-play-all-requires
 play-all-requires c κs = search needs
@@ -81,8 +81,8 @@ returns-3 c =
     let have = c .before .before .before .before .before .before .before .before .before .before .before .before .before .fewer in
     let fresh = c .before .before .before .before .before .before .before .before .before .before .before .before .fresh in
     let load = c .before .before .before .before .before .before .before .before .before .before .load in
-    let e : have .result ≡ min (stated i) (length i - 2) = have .ensures ∙ ap (λ (x : ℕ). min x (length i - 2)) (c .before .before .before .before .before .before .before .before .before .before .before .before .before .before .stated-length .ensures .0) in
-    image-whole i (omega (arith, c .before .before .before .before .before .before .before .before .before .before .before .before .before .before .before .before .before .if1 .left)) (2 + have .result) (ap (λ (x : ℕ). 2 + x) e) (fresh .result) (fresh .ensures) (load .result) (load .ensures) _ _ _ (c .before .before .before .before .before .before .before .before .put-line .ensures) _ _ (omega (arith, c .before .before .before .before .before .if2 .left, c .before .before .before .before .before .before .before .before .before .before .before .before .before .before .stated-length .ensures .0)) (c .before .before .play-all .ensures)
+    let e : have .result ≡ min (stated i) (length i - 2) = have .ensures ∙ ap (λ (x : ℕ). min x (length i - 2)) (c .before .before .before .before .before .before .before .before .before .before .before .before .before .before .low-first .ensures .0) in
+    image-whole i (omega (arith, c .before .before .before .before .before .before .before .before .before .before .before .before .before .before .before .before .before .if1 .left)) (2 + have .result) (ap (λ (x : ℕ). 2 + x) e) (fresh .result) (fresh .ensures) (load .result) (load .ensures) _ _ _ (c .before .before .before .before .before .before .before .before .put-line .ensures) _ _ (omega (arith, c .before .before .before .before .before .if2 .left, c .before .before .before .before .before .before .before .before .before .before .before .before .before .before .low-first .ensures .0)) (c .before .before .play-all .ensures)
 
 pub run-spec : {M : Type 1} → statement M
 run-spec =
@@ -92,9 +92,9 @@ run-spec =
     put-all-requires
     same-length
     returns
-    shared-slice-read-stated-length
-    shared-slice-read-stated-length-2
-    stated-length-requires
+    shared-slice-read-low-first
+    shared-slice-read-low-first-2
+    low-first-requires
     sub-fewer
     fewer-requires
     add-end
