@@ -1,7 +1,10 @@
 -- The class of a byte (01, "In text": each of the 256 byte values has one class: digit, space, one of & | ( ) [ ] ., or other).
 use mathlib.Core.Bool.{Bool, true, false, _&&_}
-use Prim.Native.Nat.{ℕ, _-_}
+use mathlib.Core.Path.{_≡_}
+use mathlib.Core.List.{List}
+use Prim.Native.Nat.{ℕ, _-_, _<_}
 use lib.Dec.{leb, eqb}
+use lib.ListN.{length, getD}
 
 -- the classes, by number
 abbrev pub digit : ℕ
@@ -50,6 +53,11 @@ classOf x =
     (pick (eqb x 91) lbra
     (pick (eqb x 93) rbra
     (pick (eqb x 46) dot other))))))))
+
+-- the class of each of the 256 byte values
+pub record Tabled (t : List ℕ) : Type 0 where
+  pub long : length t ≡ 256
+  pub each : (x : ℕ) → x < 256 → getD t x 0 ≡ classOf x
 
 -- what a digit counts
 unfoldable pub value : ℕ → ℕ

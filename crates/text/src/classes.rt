@@ -1,6 +1,6 @@
 // The class of a byte (01, "In text": each of the 256 byte values has one class).
 ghost use mathlib.Core.Path.{_≡_};
-ghost use Rattle.text.specs.Classes.{classOf};
+ghost use Rattle.text.specs.Classes.{classOf, Tabled};
 
 // The classes of bytes.
 pub const DIGIT: u8 = 0;
@@ -281,9 +281,17 @@ const CLASS: [u8; 256] = [
     9,
 ];
 
-// The class of a byte.
-pub fn class(b: u8) -> u8
+// The table of the classes: a text's reader makes it once, and lends it.
+pub fn table() -> [u8; 256]
+    ensures { λ r. ⌜ Tabled r ⌝ }
+{
+    CLASS
+}
+
+// The class of a byte, as the table has it.
+pub fn class(t: &[u8], b: u8) -> u8
+    requires { ⌜ Tabled (now t) ⌝ }
     ensures { λ r. ⌜ r ≡ classOf b ⌝ }
 {
-    CLASS[b as usize]
+    t[b as usize]
 }

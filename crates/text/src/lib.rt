@@ -6,7 +6,7 @@ ghost use mathlib.Core.List.{_++_};
 ghost use lib.ListN.{length, take, drop};
 ghost use Rattle.answer.specs.Answers.{Decides, Leaves};
 ghost use Rattle.text.specs.Turn.{textConditions, textGrants, textMakes};
-ghost use Rattle.text.specs.Classes.{digit as Classes·digit, lbra as Classes·lbra};
+ghost use Rattle.text.specs.Classes.{Tabled, digit as Classes·digit, lbra as Classes·lbra};
 ghost use Rattle.text.specs.Scan.{below};
 ghost use Rattle.text.specs.Kept.{Moved};
 ghost use Rattle.text.specs.Reader.{classAt, standsAt, growsAt, Skipped, Digit, Counts, Good, Puts, Inserts, Signed, Dotted, Numbered, Ranged, Item, Ands, Ors, Whole};
@@ -23,6 +23,7 @@ use crate::classes::RBRA;
 use crate::classes::RPAR;
 use crate::classes::SPACE;
 use crate::classes::class;
+use crate::classes::table;
 use answer::Answer;
 
 // The most bytes that a text has, and that it may make.
@@ -51,30 +52,33 @@ struct Count {
 }
 
 // Whether a byte of class c stands at the place `at`.
-fn is_class(s: &[u8], at: usize, c: u8) -> bool
+fn is_class(t: &[u8], s: &[u8], at: usize, c: u8) -> bool
+    requires { ⌜ Tabled (now t) ⌝ }
     ensures { λ r. ⌜ r ≡ classAt (now (s .entry)) at c ⌝ }
 {
     if at < s.len() {
-        class(s[at]) == c
+        class(t, s[at]) == c
     } else {
         false
     }
 }
 
 // Whether the text is read so far and goes on with a byte of class c.
-fn stands(s: &[u8], g: Reading, c: u8) -> bool
+fn stands(t: &[u8], s: &[u8], g: Reading, c: u8) -> bool
+    requires { ⌜ Tabled (now t) ⌝ }
     ensures { λ r. ⌜ r ≡ standsAt (now (s .entry)) g c ⌝ }
 {
-    if g.ok { is_class(s, g.at, c) } else { false }
+    if g.ok { is_class(t, s, g.at, c) } else { false }
 }
 
 // The place after the spaces at `at`.
-fn skip(s: &[u8], at: usize) -> usize
+fn skip(t: &[u8], s: &[u8], at: usize) -> usize
     requires { ⌜ at ≤ length (now s) ⌝ }
+    requires { ⌜ Tabled (now t) ⌝ }
     ensures { λ r. ⌜ Skipped (now (s .entry)) at r ⌝ }
 {
     let mut p = at;
-    while is_class(s, p, SPACE) {
+    while is_class(t, s, p, SPACE) {
         p += 1;
     }
     p
@@ -96,11 +100,12 @@ fn wide(x: u8) -> usize
 }
 
 // Whether a digit at `at` makes a longer number of n: no leading zero, at most two digits.
-fn grows(s: &[u8], at: usize, n: usize) -> bool
+fn grows(t: &[u8], s: &[u8], at: usize, n: usize) -> bool
     requires { ⌜ n < below ⌝ }
+    requires { ⌜ Tabled (now t) ⌝ }
     ensures { λ r. ⌜ r ≡ growsAt (now (s .entry)) at n ⌝ }
 {
-    if is_class(s, at, DIGIT) {
+    if is_class(t, s, at, DIGIT) {
         if 0 < n {
             return 10 * n + digit(s, at) < BELOW;
         }
@@ -109,13 +114,14 @@ fn grows(s: &[u8], at: usize, n: usize) -> bool
 }
 
 // A number: all digits at `at` that belong to it.
-fn digits(s: &[u8], at: usize) -> Count
+fn digits(t: &[u8], s: &[u8], at: usize) -> Count
     requires { ⌜ classAt (now s) at Classes·digit ≡ true ⌝ }
+    requires { ⌜ Tabled (now t) ⌝ }
     ensures { λ r. ⌜ Counts (now (s .entry)) at r ⌝ }
 {
     let mut n = digit(s, at);
     let mut p = at + 1;
-    while grows(s, p, n) {
+    while grows(t, s, p, n) {
         n = 10 * n + digit(s, p);
         p += 1;
     }
@@ -172,13 +178,14 @@ fn insert(g: Reading, start: usize, x: u8) -> Reading
 }
 
 // The sign of class c, and the spaces after it.
-fn sign(s: &[u8], g: Reading, c: u8) -> Reading
+fn sign(t: &[u8], s: &[u8], g: Reading, c: u8) -> Reading
     requires { ⌜ (g .at) ≤ length (now s) ⌝ }
+    requires { ⌜ Tabled (now t) ⌝ }
     ensures { λ r. ⌜ Signed (now (s .entry)) g c r ⌝ }
 {
     let mut r = g;
-    if stands(s, g, c) {
-        r.at = skip(s, g.at + 1);
+    if stands(t, s, g, c) {
+        r.at = skip(t, s, g.at + 1);
         return r;
     }
     r.ok = false;
@@ -186,28 +193,30 @@ fn sign(s: &[u8], g: Reading, c: u8) -> Reading
 }
 
 // Two dots, with nothing between them.
-fn dots(s: &[u8], g: Reading) -> Reading
+fn dots(t: &[u8], s: &[u8], g: Reading) -> Reading
     requires { ⌜ Good (now s) g ⌝ }
+    requires { ⌜ Tabled (now t) ⌝ }
     ensures { λ r. ⌜ Dotted (now (s .entry)) g r ⌝ }
 {
     let mut r = g;
-    if stands(s, g, DOT) {
+    if stands(t, s, g, DOT) {
         r.at = g.at + 1;
-        return sign(s, r, DOT);
+        return sign(t, s, r, DOT);
     }
     r.ok = false;
     r
 }
 
 // A number, and the spaces after it.
-fn number(s: &[u8], g: Reading) -> Reading
+fn number(t: &[u8], s: &[u8], g: Reading) -> Reading
     requires { ⌜ (g .at) ≤ length (now s) ⌝ }
+    requires { ⌜ Tabled (now t) ⌝ }
     ensures { λ r. ⌜ Numbered (now (s .entry)) g r ⌝ }
 {
     let mut a = g;
-    if stands(s, g, DIGIT) {
-        let k = digits(s, g.at);
-        a.at = skip(s, k.at);
+    if stands(t, s, g, DIGIT) {
+        let k = digits(t, s, g.at);
+        a.at = skip(t, s, k.at);
         return put(a, k.n);
     }
     a.ok = false;
@@ -215,70 +224,75 @@ fn number(s: &[u8], g: Reading) -> Reading
 }
 
 // The rest of number[number..number], from its bracket on.
-fn range(s: &[u8], g: Reading) -> Reading
+fn range(t: &[u8], s: &[u8], g: Reading) -> Reading
     requires { ⌜ Good (now s) g × (standsAt (now s) g Classes·lbra ≡ true) ⌝ }
+    requires { ⌜ Tabled (now t) ⌝ }
     ensures { λ r. ⌜ Ranged (now (s .entry)) g r ⌝ }
 {
-    let a = sign(s, g, LBRA);
-    let b = number(s, a);
-    let c = dots(s, b);
-    let d = number(s, c);
-    sign(s, d, RBRA)
+    let a = sign(t, s, g, LBRA);
+    let b = number(t, s, a);
+    let c = dots(t, s, b);
+    let d = number(t, s, c);
+    sign(t, s, d, RBRA)
 }
 
 // A number, number[number..number], or parentheses round a whole text again.
-fn item(s: &[u8], g: Reading) -> Reading
+fn item(t: &[u8], s: &[u8], g: Reading) -> Reading
     requires { ⌜ Good (now s) g ⌝ }
+    requires { ⌜ Tabled (now t) ⌝ }
     ensures { λ r. ⌜ Item (now (s .entry)) g r ⌝ }
 {
     let start = g.made;
-    if stands(s, g, LPAR) {
-        let a = sign(s, g, LPAR);
-        let b = or_level(s, a, start);
-        return sign(s, b, RPAR);
+    if stands(t, s, g, LPAR) {
+        let a = sign(t, s, g, LPAR);
+        let b = or_level(t, s, a, start);
+        return sign(t, s, b, RPAR);
     }
-    let a = number(s, g);
-    if stands(s, a, LBRA) {
-        let b = range(s, a);
+    let a = number(t, s, g);
+    if stands(t, s, a, LBRA) {
+        let b = range(t, s, a);
         return insert(b, start, 2);
     }
     insert(a, start, 1)
 }
 
 // Items joined by &; the bytes made from start on are those to the left of the first.
-fn and_level(s: &[u8], g: Reading, start: usize) -> Reading
+fn and_level(t: &[u8], s: &[u8], g: Reading, start: usize) -> Reading
     requires { ⌜ Good (now s) g ⌝ }
+    requires { ⌜ Tabled (now t) ⌝ }
     ensures { λ r. ⌜ Ands (now (s .entry)) start g r ⌝ }
 {
-    let a = item(s, g);
-    if stands(s, a, AMP) {
-        let b = sign(s, a, AMP);
+    let a = item(t, s, g);
+    if stands(t, s, a, AMP) {
+        let b = sign(t, s, a, AMP);
         let c = insert(b, start, 3);
-        return and_level(s, c, start);
+        return and_level(t, s, c, start);
     }
     a
 }
 
 // Those joined by |.
-fn or_level(s: &[u8], g: Reading, start: usize) -> Reading
+fn or_level(t: &[u8], s: &[u8], g: Reading, start: usize) -> Reading
     requires { ⌜ Good (now s) g ⌝ }
+    requires { ⌜ Tabled (now t) ⌝ }
     ensures { λ r. ⌜ Ors (now (s .entry)) start g r ⌝ }
 {
     let m = g.made;
-    let a = and_level(s, g, m);
-    if stands(s, a, BAR) {
-        let b = sign(s, a, BAR);
+    let a = and_level(t, s, g, m);
+    if stands(t, s, a, BAR) {
+        let b = sign(t, s, a, BAR);
         let c = insert(b, start, 4);
-        return or_level(s, c, start);
+        return or_level(t, s, c, start);
     }
     a
 }
 
 // A whole text: blank, or joined items up to its end.
-fn read(s: &[u8]) -> Reading
+fn read(t: &[u8], s: &[u8]) -> Reading
+    requires { ⌜ Tabled (now t) ⌝ }
     ensures { λ r. ⌜ Whole (now (s .entry)) r ⌝ }
 {
-    let p = skip(s, 0);
+    let p = skip(t, s, 0);
     let g = Reading {
         ok: true,
         at: p,
@@ -288,7 +302,7 @@ fn read(s: &[u8]) -> Reading
     if p == s.len() {
         return g;
     }
-    let mut r = or_level(s, g, 0);
+    let mut r = or_level(t, s, g, 0);
     if r.at < s.len() {
         r.ok = false;
     }
@@ -318,7 +332,8 @@ pub fn turn(text: &[u8], out: &mut [u8]) -> Answer
     if LONGEST_TEXT < text.len() {
         return Answer::at(answer::TEXT_WRONG, LONGEST_TEXT);
     }
-    let g = read(text);
+    let t = table();
+    let g = read(&t, text);
     if !g.ok {
         return Answer::at(answer::TEXT_WRONG, g.at);
     }

@@ -25,34 +25,34 @@ use Rattle.text.proofs.stands.Reads as stands-reads
 use Rattle.text.proofs.+and_level+item+or_level.{statement}
 use Rattle.text.proofs.+and_level+item+or_level.Tie.{close}
 
-abbrev μ-and-level : Measures 1 and-level-kinds.ps ℕ
-μ-and-level κs a = 3 * (length (a .0 .now) - a .1 .0 .at) + 1
+abbrev μ-and-level : Measures 2 and-level-kinds.ps ℕ
+μ-and-level κs a = 3 * (length (a .1 .0 .now) - a .1 .1 .0 .at) + 1
 
-abbrev μ-item : Measures 1 item-kinds.ps ℕ
-μ-item κs a = 3 * (length (a .0 .now) - a .1 .0 .at)
+abbrev μ-item : Measures 2 item-kinds.ps ℕ
+μ-item κs a = 3 * (length (a .1 .0 .now) - a .1 .1 .0 .at)
 
-abbrev μ-or-level : Measures 1 or-level-kinds.ps ℕ
-μ-or-level κs a = 3 * (length (a .0 .now) - a .1 .0 .at) + 2
+abbrev μ-or-level : Measures 2 or-level-kinds.ps ℕ
+μ-or-level κs a = 3 * (length (a .1 .0 .now) - a .1 .1 .0 .at) + 2
 
-abbrev and-level-at : ℕ → In 1 and-level-kinds.ps
-and-level-at t = and 1 and-level-kinds.ps (is 1 and-level-kinds.ps μ-and-level t) and-level.Pre
+abbrev and-level-at : ℕ → In 2 and-level-kinds.ps
+and-level-at t = and 2 and-level-kinds.ps (is 2 and-level-kinds.ps μ-and-level t) and-level.Pre
 
-abbrev and-level-below : ℕ → In 1 and-level-kinds.ps
+abbrev and-level-below : ℕ → In 2 and-level-kinds.ps
 and-level-below t =
-    and 1 and-level-kinds.ps (falls 1 and-level-kinds.ps _<_ μ-and-level t) and-level.Pre
+    and 2 and-level-kinds.ps (falls 2 and-level-kinds.ps _<_ μ-and-level t) and-level.Pre
 
-abbrev item-at : ℕ → In 1 item-kinds.ps
-item-at t = and 1 item-kinds.ps (is 1 item-kinds.ps μ-item t) item.Pre
+abbrev item-at : ℕ → In 2 item-kinds.ps
+item-at t = and 2 item-kinds.ps (is 2 item-kinds.ps μ-item t) item.Pre
 
-abbrev item-below : ℕ → In 1 item-kinds.ps
-item-below t = and 1 item-kinds.ps (falls 1 item-kinds.ps _<_ μ-item t) item.Pre
+abbrev item-below : ℕ → In 2 item-kinds.ps
+item-below t = and 2 item-kinds.ps (falls 2 item-kinds.ps _<_ μ-item t) item.Pre
 
-abbrev or-level-at : ℕ → In 1 or-level-kinds.ps
-or-level-at t = and 1 or-level-kinds.ps (is 1 or-level-kinds.ps μ-or-level t) or-level.Pre
+abbrev or-level-at : ℕ → In 2 or-level-kinds.ps
+or-level-at t = and 2 or-level-kinds.ps (is 2 or-level-kinds.ps μ-or-level t) or-level.Pre
 
-abbrev or-level-below : ℕ → In 1 or-level-kinds.ps
+abbrev or-level-below : ℕ → In 2 or-level-kinds.ps
 or-level-below t =
-    and 1 or-level-kinds.ps (falls 1 or-level-kinds.ps _<_ μ-or-level t) or-level.Pre
+    and 2 or-level-kinds.ps (falls 2 or-level-kinds.ps _<_ μ-or-level t) or-level.Pre
 
 abbrev and-level-claims : ℕ → and-level-lts.Claims
 and-level-claims t = (item-below t, item.Post, stands-reads.Asked, stands-reads.Learnt, sign-reads.Asked, sign-reads.Learnt, insert-reads.Asked, insert-reads.Learnt, and-level-below t, and-level.Post)
@@ -64,19 +64,19 @@ abbrev or-level-claims : ℕ → or-level-lts.Claims
 or-level-claims t = (and-level-below t, and-level.Post, stands-reads.Asked, stands-reads.Learnt, sign-reads.Asked, sign-reads.Learnt, insert-reads.Asked, insert-reads.Learnt, or-level-below t, or-level.Post)
 
 and-level-item-requires : (t : ℕ) → and-level-lts.Need-item-requires (and-level-claims t) (and-level-at t) and-level.Post
-and-level-item-requires t c κs = (omega arith, c .before .pre .1)
+and-level-item-requires t c κs = (omega arith, c .before .before .pre .1)
 
 and-level-stands-requires : (t : ℕ) → and-level-lts.Need-stands-requires (and-level-claims t) (and-level-at t) and-level.Post
-and-level-stands-requires t c κs = tt
+and-level-stands-requires t c κs = c .before .before .before .pre .1 .1
 
 and-level-sign-requires : (t : ℕ) → and-level-lts.Need-sign-requires (and-level-claims t) (and-level-at t) and-level.Post
-and-level-sign-requires t c κs = c .before .before .item .ensures .on .good .within
+and-level-sign-requires t c κs = (c .before .before .item .ensures .on .good .within, c .before .before .before .before .before .pre .1 .1)
 
 and-level-insert-requires : (t : ℕ) → and-level-lts.Need-insert-requires (and-level-claims t) (and-level-at t) and-level.Post
 and-level-insert-requires t c κs = tt
 
 and-level-and-level-requires : (t : ℕ) → and-level-lts.Need-and-level-requires (and-level-claims t) (and-level-at t) and-level.Post
-and-level-and-level-requires t c κs = let w = onward _ _ _ (c .before .before .before .before .item .ensures .on) amp _ (c .before .before .before .stands .ensures) (c .before .before .if1 .taken) _ (c .before .sign .ensures) _ (c .insert .ensures .beside) in (omega (arith, w .0, w .1 .within), w .1)
+and-level-and-level-requires t c κs = let w = onward _ _ _ (c .before .before .before .before .item .ensures .on) amp _ (c .before .before .before .stands .ensures) (c .before .before .if1 .taken) _ (c .before .sign .ensures) _ (c .insert .ensures .beside) in (omega (arith, w .0, w .1 .within), (w .1, c .before .before .before .before .before .before .before .pre .1 .1))
 
 and-level-returns : (t : ℕ) → and-level-lts.Need-returns (and-level-claims t) (and-level-at t) and-level.Post
 and-level-returns t c = and-more _ _ _ _ (c .before .before .before .before .before .item .ensures) _ (c .before .before .before .before .stands .ensures) (c .before .before .before .if1 .taken) _ (c .before .before .sign .ensures) _ (c .before .insert .ensures) _ (c .and-level .ensures)
@@ -85,55 +85,55 @@ and-level-returns-2 : (t : ℕ) → and-level-lts.Need-returns-2 (and-level-clai
 and-level-returns-2 t c = and-last _ _ _ _ (c .before .before .item .ensures) _ (c .before .stands .ensures) (c .if1 .left)
 
 item-stands-requires : (t : ℕ) → item-lts.Need-stands-requires (item-claims t) (item-at t) item.Post
-item-stands-requires t c κs = tt
+item-stands-requires t c κs = c .before .before .pre .1 .1
 
 item-sign-requires : (t : ℕ) → item-lts.Need-sign-requires (item-claims t) (item-at t) item.Post
-item-sign-requires t c κs = c .before .before .before .pre .1 .within
+item-sign-requires t c κs = (c .before .before .before .before .pre .1 .0 .within, c .before .before .before .before .pre .1 .1)
 
 item-or-level-requires : (t : ℕ) → item-lts.Need-or-level-requires (item-claims t) (item-at t) item.Post
-item-or-level-requires t c κs = let w = further _ _ lpar _ (c .before .before .stands .ensures) (c .before .if1 .taken) _ (c .sign .ensures) in (omega (arith, w .0, w .1), c .sign .ensures .on .good)
+item-or-level-requires t c κs = let w = further _ _ lpar _ (c .before .before .stands .ensures) (c .before .if1 .taken) _ (c .sign .ensures) in (omega (arith, w .0, w .1), (c .sign .ensures .on .good, c .before .before .before .before .before .pre .1 .1))
 
 item-sign-requires-2 : (t : ℕ) → item-lts.Need-sign-requires-2 (item-claims t) (item-at t) item.Post
-item-sign-requires-2 t c κs = c .or-level .ensures .on .good .within
+item-sign-requires-2 t c κs = (c .or-level .ensures .on .good .within, c .before .before .before .before .before .before .pre .1 .1)
 
 item-returns : (t : ℕ) → item-lts.Need-returns (item-claims t) (item-at t) item.Post
-item-returns t c = shuts _ _ (c .before .before .before .before .before .before .pre .1) _ (c .before .before .before .before .stands .ensures) (c .before .before .before .if1 .taken) _ (c .before .before .sign .ensures) _ (c .before .or-level .ensures) _ (c .sign2 .ensures)
+item-returns t c = shuts _ _ (c .before .before .before .before .before .before .before .pre .1 .0) _ (c .before .before .before .before .stands .ensures) (c .before .before .before .if1 .taken) _ (c .before .before .sign .ensures) _ (c .before .or-level .ensures) _ (c .sign2 .ensures)
 
 item-number-requires : (t : ℕ) → item-lts.Need-number-requires (item-claims t) (item-at t) item.Post
-item-number-requires t c κs = c .before .before .before .pre .1 .within
+item-number-requires t c κs = (c .before .before .before .before .pre .1 .0 .within, c .before .before .before .before .pre .1 .1)
 
 item-stands-requires-2 : (t : ℕ) → item-lts.Need-stands-requires-2 (item-claims t) (item-at t) item.Post
-item-stands-requires-2 t c κs = tt
+item-stands-requires-2 t c κs = c .before .before .before .before .before .pre .1 .1
 
 item-range-requires : (t : ℕ) → item-lts.Need-range-requires (item-claims t) (item-at t) item.Post
-item-range-requires t c κs = (c .before .before .number .ensures .on .good, sym (c .before .stands2 .ensures) ∙ c .if2 .taken)
+item-range-requires t c κs = ((c .before .before .number .ensures .on .good, sym (c .before .stands2 .ensures) ∙ c .if2 .taken), c .before .before .before .before .before .before .before .pre .1 .1)
 
 item-insert-requires : (t : ℕ) → item-lts.Need-insert-requires (item-claims t) (item-at t) item.Post
 item-insert-requires t c κs = tt
 
 item-returns-2 : (t : ℕ) → item-lts.Need-returns-2 (item-claims t) (item-at t) item.Post
-item-returns-2 t c = a-range _ _ (c .before .before .before .before .before .before .before .before .pre .1) _ (c .before .before .before .before .before .before .stands .ensures) (c .before .before .before .before .before .if1 .left) _ (c .before .before .before .before .number .ensures) _ (c .before .before .before .stands2 .ensures) (c .before .before .if2 .taken) _ (c .before .range .ensures) _ (c .insert .ensures)
+item-returns-2 t c = a-range _ _ (c .before .before .before .before .before .before .before .before .before .pre .1 .0) _ (c .before .before .before .before .before .before .stands .ensures) (c .before .before .before .before .before .if1 .left) _ (c .before .before .before .before .number .ensures) _ (c .before .before .before .stands2 .ensures) (c .before .before .if2 .taken) _ (c .before .range .ensures) _ (c .insert .ensures)
 
 item-insert-requires-2 : (t : ℕ) → item-lts.Need-insert-requires-2 (item-claims t) (item-at t) item.Post
 item-insert-requires-2 t c κs = tt
 
 item-returns-3 : (t : ℕ) → item-lts.Need-returns-3 (item-claims t) (item-at t) item.Post
-item-returns-3 t c = one-number _ _ (c .before .before .before .before .before .before .before .pre .1) _ (c .before .before .before .before .before .stands .ensures) (c .before .before .before .before .if1 .left) _ (c .before .before .before .number .ensures) _ (c .before .before .stands2 .ensures) (c .before .if2 .left) _ (c .insert2 .ensures)
+item-returns-3 t c = one-number _ _ (c .before .before .before .before .before .before .before .before .pre .1 .0) _ (c .before .before .before .before .before .stands .ensures) (c .before .before .before .before .if1 .left) _ (c .before .before .before .number .ensures) _ (c .before .before .stands2 .ensures) (c .before .if2 .left) _ (c .insert2 .ensures)
 
 or-level-and-level-requires : (t : ℕ) → or-level-lts.Need-and-level-requires (or-level-claims t) (or-level-at t) or-level.Post
-or-level-and-level-requires t c κs = (omega arith, c .before .pre .1)
+or-level-and-level-requires t c κs = (omega arith, c .before .before .pre .1)
 
 or-level-stands-requires : (t : ℕ) → or-level-lts.Need-stands-requires (or-level-claims t) (or-level-at t) or-level.Post
-or-level-stands-requires t c κs = tt
+or-level-stands-requires t c κs = c .before .before .before .pre .1 .1
 
 or-level-sign-requires : (t : ℕ) → or-level-lts.Need-sign-requires (or-level-claims t) (or-level-at t) or-level.Post
-or-level-sign-requires t c κs = c .before .before .and-level .ensures .on .good .within
+or-level-sign-requires t c κs = (c .before .before .and-level .ensures .on .good .within, c .before .before .before .before .before .pre .1 .1)
 
 or-level-insert-requires : (t : ℕ) → or-level-lts.Need-insert-requires (or-level-claims t) (or-level-at t) or-level.Post
 or-level-insert-requires t c κs = tt
 
 or-level-or-level-requires : (t : ℕ) → or-level-lts.Need-or-level-requires (or-level-claims t) (or-level-at t) or-level.Post
-or-level-or-level-requires t c κs = let w = onward _ _ _ (c .before .before .before .before .and-level .ensures .on) bar _ (c .before .before .before .stands .ensures) (c .before .before .if1 .taken) _ (c .before .sign .ensures) _ (c .insert .ensures .beside) in (omega (arith, w .0, w .1 .within), w .1)
+or-level-or-level-requires t c κs = let w = onward _ _ _ (c .before .before .before .before .and-level .ensures .on) bar _ (c .before .before .before .stands .ensures) (c .before .before .if1 .taken) _ (c .before .sign .ensures) _ (c .insert .ensures .beside) in (omega (arith, w .0, w .1 .within), (w .1, c .before .before .before .before .before .before .before .pre .1 .1))
 
 or-level-returns : (t : ℕ) → or-level-lts.Need-returns (or-level-claims t) (or-level-at t) or-level.Post
 or-level-returns t c = or-more _ _ _ _ (c .before .before .before .before .before .and-level .ensures) _ (c .before .before .before .before .stands .ensures) (c .before .before .before .if1 .taken) _ (c .before .before .sign .ensures) _ (c .before .insert .ensures) _ (c .or-level .ensures)

@@ -8,46 +8,46 @@ use Rattle.text.proofs.digits.Statement.{statement}
 use Rattle.text.proofs.digits.Tie as tie
 
 abbrev Inv-loop : tie.InvT-loop
-Inv-loop s at n₀ p₀ n p = Counting s at n p
+Inv-loop t s at n₀ p₀ n p = Counting s at n p
 
 abbrev μ-loop : tie.MeasureT-loop
-μ-loop s at n₀ p₀ n p = length s - p
+μ-loop t s at n₀ p₀ n p = length s - p
 
 digit-requires : tie.Need-digit-requires Inv-loop μ-loop
-digit-requires c κs = c .before .pre
+digit-requires c κs = c .before .before .pre .0
 
 add-p : tie.Need-add-p Inv-loop μ-loop
-add-p c = omega (arith, class-in (c .before .before .args .s .now) (c .before .before .args .at) 0 (c .before .before .pre))
+add-p c = omega (arith, class-in (c .before .before .before .args .s .now) (c .before .before .before .args .at) 0 (c .before .before .before .pre .0))
 
 loop-holds : tie.Need-loop-holds Inv-loop μ-loop
-loop-holds c = count-first (c .before .before .args .s .now) (c .before .before .args .at) (c .before .before .pre) _ (c .digit .ensures)
+loop-holds c = count-first (c .before .before .before .args .s .now) (c .before .before .before .args .at) (c .before .before .before .pre .0) _ (c .digit .ensures)
 
 grows-requires : tie.Need-grows-requires Inv-loop μ-loop
-grows-requires c κs = c .loop .inv .small
+grows-requires c κs = (c .loop .inv .small, c .before .before .before .before .pre .1)
 
 mul-n : tie.Need-mul-n Inv-loop μ-loop
 mul-n c = omega (arith, c .before .before .loop .inv .small)
 
 digit-requires-2 : tie.Need-digit-requires-2 Inv-loop μ-loop
-digit-requires-2 c κs = grow-digit (c .before .before .before .before .before .args .s .now) (c .before .before .before .before .before .args .at) _ _ (c .before .before .loop .inv) _ (c .before .grows .ensures) (c .if1 .taken)
+digit-requires-2 c κs = grow-digit (c .before .before .before .before .before .before .args .s .now) (c .before .before .before .before .before .before .args .at) _ _ (c .before .before .loop .inv) _ (c .before .grows .ensures) (c .if1 .taken)
 
 add-n : tie.Need-add-n Inv-loop μ-loop
 add-n c = omega (arith, c .before .before .before .loop .inv .small, c .digit2 .ensures .low)
 
 add-p-2 : tie.Need-add-p-2 Inv-loop μ-loop
-add-p-2 c = let h = grow-in (c .before .before .before .before .before .before .args .s .now) (c .before .before .before .before .before .before .args .at) _ _ (c .before .before .before .loop .inv) _ (c .before .before .grows .ensures) (c .before .if1 .taken) .0 in omega arith
+add-p-2 c = let h = grow-in (c .before .before .before .before .before .before .before .args .s .now) (c .before .before .before .before .before .before .before .args .at) _ _ (c .before .before .before .loop .inv) _ (c .before .before .grows .ensures) (c .before .if1 .taken) .0 in omega arith
 
 loop-less : tie.Need-loop-less Inv-loop μ-loop
-loop-less c = let h = grow-in (c .before .before .before .before .before .before .args .s .now) (c .before .before .before .before .before .before .args .at) _ _ (c .before .before .before .loop .inv) _ (c .before .before .grows .ensures) (c .before .if1 .taken) .0 in omega arith
+loop-less c = let h = grow-in (c .before .before .before .before .before .before .before .args .s .now) (c .before .before .before .before .before .before .before .args .at) _ _ (c .before .before .before .loop .inv) _ (c .before .before .grows .ensures) (c .before .if1 .taken) .0 in omega arith
 
 loop-again : tie.Need-loop-again Inv-loop μ-loop
-loop-again c = count-more (c .before .before .before .before .before .before .args .s .now) (c .before .before .before .before .before .before .args .at) _ _ (c .before .before .before .loop .inv) _ (c .before .before .grows .ensures) (c .before .if1 .taken) _ (c .digit2 .ensures)
+loop-again c = count-more (c .before .before .before .before .before .before .before .args .s .now) (c .before .before .before .before .before .before .before .args .at) _ _ (c .before .before .before .loop .inv) _ (c .before .before .grows .ensures) (c .before .if1 .taken) _ (c .digit2 .ensures)
 
-cast-t8 : tie.Need-cast-t8 Inv-loop μ-loop
-cast-t8 c = omega (arith, c .before .before .loop .inv .small)
+cast-t9 : tie.Need-cast-t9 Inv-loop μ-loop
+cast-t9 c = omega (arith, c .before .before .loop .inv .small)
 
 returns : tie.Need-returns Inv-loop μ-loop
-returns c = count-end (c .before .before .before .before .before .args .s .now) (c .before .before .before .before .before .args .at) _ _ (c .before .before .loop .inv) _ (c .before .grows .ensures) (c .if1 .left) _ refl
+returns c = count-end (c .before .before .before .before .before .before .args .s .now) (c .before .before .before .before .before .before .args .at) _ _ (c .before .before .loop .inv) _ (c .before .grows .ensures) (c .if1 .left) _ refl
 
 pub digits-spec : {M : Type 1} → statement M
 digits-spec =
@@ -65,5 +65,5 @@ digits-spec =
     add-p-2
     loop-less
     loop-again
-    cast-t8
+    cast-t9
     returns)

@@ -9,7 +9,7 @@ stands-requires : tie.Need-stands-requires
 stands-requires c κs = search needs
 
 digits-requires : tie.Need-digits-requires
-digits-requires c κs = stands-class (c .before .before .before .args .s .now) (c .before .before .before .args .g) 0 _ (c .before .stands .ensures) (c .if1 .taken)
+digits-requires c κs = (stands-class (c .before .before .before .before .args .s .now) (c .before .before .before .before .args .g) 0 _ (c .before .stands .ensures) (c .if1 .taken), c .before .before .before .before .pre .1)
 
 skip-requires : tie.Need-skip-requires
 skip-requires c κs = search needs
@@ -18,10 +18,10 @@ put-requires : tie.Need-put-requires
 put-requires c κs = search needs
 
 returns : tie.Need-returns
-returns c = num-on (c .before .before .before .before .before .before .args .s .now) (c .before .before .before .before .before .before .args .g) _ (c .before .before .before .before .stands .ensures) (c .before .before .before .if1 .taken) _ (c .before .before .digits .ensures) _ (c .before .skip .ensures) _ (c .put .ensures)
+returns c = num-on (c .before .before .before .before .before .before .before .args .s .now) (c .before .before .before .before .before .before .before .args .g) _ (c .before .before .before .before .stands .ensures) (c .before .before .before .if1 .taken) _ (c .before .before .digits .ensures) _ (c .before .skip .ensures) _ (c .put .ensures)
 
 returns-2 : tie.Need-returns-2
-returns-2 c = num-not (c .before .before .before .args .s .now) (c .before .before .before .args .g) _ (c .before .stands .ensures) (c .if1 .left) (c .before .before .before .pre)
+returns-2 c = num-not (c .before .before .before .before .args .s .now) (c .before .before .before .before .args .g) _ (c .before .stands .ensures) (c .if1 .left) (c .before .before .before .before .pre .0)
 
 pub number-spec : {M : Type 1} → statement M
 number-spec =

@@ -20,7 +20,7 @@ sign-requires-2 : tie.Need-sign-requires-2
 sign-requires-2 c κs = search needs
 
 returns : tie.Need-returns
-returns c = ranged _ _ (c .before .before .before .before .before .before .pre .1) _ (c .before .before .before .before .sign .ensures) _ (c .before .before .before .number .ensures) _ (c .before .before .dots .ensures) _ (c .before .number2 .ensures) _ (c .sign2 .ensures)
+returns c = ranged _ _ (c .before .before .before .before .before .before .before .pre .0 .1) _ (c .before .before .before .before .sign .ensures) _ (c .before .before .before .number .ensures) _ (c .before .before .dots .ensures) _ (c .before .number2 .ensures) _ (c .sign2 .ensures)
 
 pub range-spec : {M : Type 1} → statement M
 range-spec =

@@ -13,13 +13,13 @@ add-skip : tie.Need-add-skip
 add-skip c = search needs
 
 skip-requires : tie.Need-skip-requires
-skip-requires c κs = let h = stands-in (c .before .before .before .before .args .s .now) (c .before .before .before .before .args .g) _ _ (c .before .before .stands .ensures) (c .before .if1 .taken) in omega arith
+skip-requires c κs = let h = stands-in (c .before .before .before .before .before .args .s .now) (c .before .before .before .before .before .args .g) _ _ (c .before .before .stands .ensures) (c .before .if1 .taken) in (omega arith, c .before .before .before .before .before .pre .1)
 
 returns : tie.Need-returns
 returns c = sign-past _ _ _ _ (c .before .before .before .stands .ensures) (c .before .before .if1 .taken) _ (c .skip .ensures)
 
 returns-2 : tie.Need-returns-2
-returns-2 c = sign-not _ _ _ _ (c .before .stands .ensures) (c .if1 .left) (c .before .before .before .pre)
+returns-2 c = sign-not _ _ _ _ (c .before .stands .ensures) (c .if1 .left) (c .before .before .before .before .pre .0)
 
 pub sign-spec : {M : Type 1} → statement M
 sign-spec = tie.close (tie.spec stands-requires add-skip skip-requires returns returns-2)

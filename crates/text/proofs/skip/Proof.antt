@@ -7,16 +7,16 @@ use Rattle.text.proofs.skip.Statement.{statement}
 use Rattle.text.proofs.skip.Tie as tie
 
 abbrev Inv-loop : tie.InvT-loop
-Inv-loop s at p₀ p = Skips s at p
+Inv-loop t s at p₀ p = Skips s at p
 
 abbrev μ-loop : tie.MeasureT-loop
-μ-loop s at p₀ p = length s - p
+μ-loop t s at p₀ p = length s - p
 
 loop-holds : tie.Need-loop-holds Inv-loop μ-loop
-loop-holds c = skip-start _ _ (c .before .pre)
+loop-holds c = skip-start _ _ (c .before .before .pre .0)
 
 is-class-requires : tie.Need-is-class-requires Inv-loop μ-loop
-is-class-requires c κs = tt
+is-class-requires c κs = c .before .before .before .pre .1
 
 add-p : tie.Need-add-p Inv-loop μ-loop
 add-p c = let h = skip-in _ _ _ (c .before .before .loop .inv) _ (c .before .is-class .ensures) (c .if1 .taken) in omega arith

@@ -18,6 +18,12 @@ at-requires c κs = search needs
 returns-2 : tie.Need-returns-2
 returns-2 c = (over-long _ _ _ (c .before .before .if1 .left) (c .before .if2 .taken) (c .at .ensures), refused (c .at .ensures) (lit< tt) _ _)
 
+table-requires : tie.Need-table-requires
+table-requires c κs = search needs
+
+slice-aggregate-read : tie.Need-slice-aggregate-read
+slice-aggregate-read c = search needs
+
 read-requires : tie.Need-read-requires
 read-requires c κs = search needs
 
@@ -25,13 +31,13 @@ at-requires-2 : tie.Need-at-requires-2
 at-requires-2 c κs = search needs
 
 returns-3 : tie.Need-returns-3
-returns-3 c = (wrong-text _ _ _ (c .before .before .before .before .before .if1 .left) (c .before .before .before .before .if2 .left) _ (c .before .before .before .read .ensures .wrong (not-true _ (c .before .if3 .taken))) (c .at2 .ensures), refused (c .at2 .ensures) (lit< tt) _ _)
+returns-3 c = (wrong-text _ _ _ (c .before .before .before .before .before .before .before .if1 .left) (c .before .before .before .before .before .before .if2 .left) _ (c .before .before .before .read .ensures .wrong (not-true _ (c .before .if3 .taken))) (c .at2 .ensures), refused (c .at2 .ensures) (lit< tt) _ _)
 
 of-requires-2 : tie.Need-of-requires-2
 of-requires-2 c κs = search needs
 
 returns-4 : tie.Need-returns-4
-returns-4 c = let w = c .before .before .before .before .before .read .ensures .legal (not-false _ (c .before .before .before .if3 .left)) in (too-many _ _ _ (c .before .before .before .before .before .before .before .if1 .left) (c .before .before .before .before .before .before .if2 .left) _ _ (w .0) (w .1) (w .2) (c .before .if4 .taken) (c .of2 .ensures), refused (c .of2 .ensures) (lit< tt) _ _)
+returns-4 c = let w = c .before .before .before .before .before .read .ensures .legal (not-false _ (c .before .before .before .if3 .left)) in (too-many _ _ _ (c .before .before .before .before .before .before .before .before .before .if1 .left) (c .before .before .before .before .before .before .before .before .if2 .left) _ _ (w .0) (w .1) (w .2) (c .before .if4 .taken) (c .of2 .ensures), refused (c .of2 .ensures) (lit< tt) _ _)
 
 fill-requires : tie.Need-fill-requires
 fill-requires c κs = search needs
@@ -43,7 +49,7 @@ same-length : tie.Need-same-length
 same-length c = search needs
 
 returns-5 : tie.Need-returns-5
-returns-5 c = let w = c .before .before .before .before .before .before .before .before .before .before .read .ensures .legal (not-false _ (c .before .before .before .before .before .before .before .before .if3 .left)) in (turned _ _ _ (c .before .before .before .before .before .before .before .before .before .before .before .before .if1 .left) (c .before .before .before .before .before .before .before .before .before .before .before .if2 .left) _ _ (w .0) (w .1) (w .2) (c .before .before .before .before .before .before .if4 .left) (c .at3 .ensures), filled _ _ _ (c .before .before .before .before .before .before .before .before .before .before .before .before .if1 .left) (c .before .before .before .before .before .before .before .before .before .before .before .if2 .left) _ _ (w .0) (w .1) (w .2) (c .before .before .before .before .before .before .if4 .left) _ _ (c .before .before .before .fill .ensures) (c .at3 .ensures))
+returns-5 c = let w = c .before .before .before .before .before .before .before .before .before .before .read .ensures .legal (not-false _ (c .before .before .before .before .before .before .before .before .if3 .left)) in (turned _ _ _ (c .before .before .before .before .before .before .before .before .before .before .before .before .before .before .if1 .left) (c .before .before .before .before .before .before .before .before .before .before .before .before .before .if2 .left) _ _ (w .0) (w .1) (w .2) (c .before .before .before .before .before .before .if4 .left) (c .at3 .ensures), filled _ _ _ (c .before .before .before .before .before .before .before .before .before .before .before .before .before .before .if1 .left) (c .before .before .before .before .before .before .before .before .before .before .before .before .before .if2 .left) _ _ (w .0) (w .1) (w .2) (c .before .before .before .before .before .before .if4 .left) _ _ (c .before .before .before .fill .ensures) (c .at3 .ensures))
 
 pub turn-spec : {M : Type 1} → statement M
 turn-spec =
@@ -53,6 +59,8 @@ turn-spec =
     returns
     at-requires
     returns-2
+    table-requires
+    slice-aggregate-read
     read-requires
     at-requires-2
     returns-3

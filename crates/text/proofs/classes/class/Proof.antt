@@ -1,33 +1,13 @@
--- `class` meets its contract: the table is the one that the rule makes, which antt computes entry by entry. Assumes nothing.
-use mathlib.Core.Path.{_≡_, ap, _∙_}
-use mathlib.Core.List.{List, [], _∷_}
-use Prim.Native.Nat.{ℕ, zero, suc, _+_, _<_}
-use native.Mathlib.Nat.{zero-add}
+-- `class` meets its contract: the table's entry at the byte. Assumes nothing.
 use native.Mathlib.Omega.{arith}
-use lib.ListN.{getD}
-use Rattle.text.specs.Classes.{classOf}
-use borrow.Author.Needs.{needs}
 use Rattle.text.proofs.classes.class.Statement.{statement}
 use Rattle.text.proofs.classes.class.Tie as tie
 
--- f at i, at i + 1 and so on: n entries
-from : (ℕ → ℕ) → ℕ → ℕ → List ℕ
-from f i zero = []
-from f i (suc n) = f i ∷ from f (suc i) n
-
--- the rule at each entry of the table that the rule makes
-listed : (f : ℕ → ℕ) (n i k : ℕ) → k < n → getD (from f i n) k 0 ≡ f (i + k)
-unfolding from
-listed f zero i k h = absurd (omega arith)
-listed f (suc n) i zero h = ap f (omega arith)
-listed f (suc n) i (suc k) h = listed f n (suc i) k (omega arith) ∙ ap f (omega arith)
-
-array-read-result : tie.Need-array-read-result
-array-read-result c = search needs
+shared-slice-read-result : tie.Need-shared-slice-read-result
+shared-slice-read-result c = omega arith
 
 returns : tie.Need-returns
-unfolding from classOf
-returns c = listed classOf 256 0 (c .args .b) (c .fits .b .fits) ∙ ap classOf (zero-add (c .args .b))
+returns c = c .before .pre .each (c .before .args .b) (c .before .fits .b .fits)
 
 pub class-spec : {M : Type 1} → statement M
-class-spec = tie.close (tie.spec array-read-result returns)
+class-spec = tie.close (tie.spec shared-slice-read-result returns)
