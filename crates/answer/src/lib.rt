@@ -1,6 +1,6 @@
 // What every call gives back: a number and a place (01, "Numbers given back").
 ghost use mathlib.Core.Path.{_≡_};
-ghost use mathlib.Core.Bool.{Bool, true};
+ghost use mathlib.Core.Bool.{true};
 ghost use mathlib.Core.Logic.{_↔_};
 ghost use Rattle.answer.specs.Answers.{Is, Granted};
 

@@ -1,15 +1,15 @@
 -- Small policies, made from the fresh state step by step; each step keeps a well-formed state well formed. For worked examples. Assumes nothing.
-use mathlib.Core.Path.{_≡_, refl, sym, ap, _∙_, subst}
+use mathlib.Core.Path.{_≡_, refl, sym, _∙_, subst}
 use mathlib.Core.Bool.{false}
 use mathlib.Core.List.{List, []}
-use mathlib.Core.Logic.{_⊎_, inl, inr}
+use mathlib.Core.Logic.{inl}
 use Prim.Native.Nat.{ℕ, _+_, _*_, _-_, _<_, _≤_}
 use native.Mathlib.Nat.{le-refl}
 use native.Mathlib.Decide.{ℕ-discrete, decLt}
 use native.Mathlib.Omega.{arith}
 use borrow.Author.Needs.{zero≤}
-use lib.ListN.{length, getD, take, drop, set, length-set, length-take, List·getD-eq-default}
-use lib.Seq.{getD-set-same, getD-set-other, getD-take, getD-drop}
+use lib.ListN.{length, getD, take, drop, length-take, List·getD-eq-default}
+use lib.Seq.{getD-take, getD-drop}
 use Rattle.tree.specs.Tree.{IsDepth}
 use Rattle.expression.specs.declared.Kind.{Kind}
 use Rattle.expression.specs.declared.Kind.the-variants.{Privilege}
@@ -17,8 +17,8 @@ use Rattle.expression.specs.Bytes.{longest, InOrder}
 use Rattle.policy.specs.declared.Role.{Role}
 use Rattle.policy.specs.declared.File.{File}
 use Rattle.policy.specs.declared.State.{State}
-use Rattle.policy.specs.State.{mostRoles, mostFiles, rolePlaces, filePlaces, storedAt, roomPast, roleAt, fileAt, setNroles, setNfiles, withRole, putRole, offRole}
-use Rattle.policy.specs.WellFormed.{HasRoom, HasPlaces, PartInOrder, RoleInOrder, FileInOrder, AllZero, ZeroShelf, UnusedZero, WellFormed}
+use Rattle.policy.specs.State.{mostRoles, mostFiles, rolePlaces, roomPast, roleAt, fileAt, setNroles, setNfiles, withRole, putRole}
+use Rattle.policy.specs.WellFormed.{PartInOrder, RoleInOrder, FileInOrder, AllZero, ZeroShelf, WellFormed}
 use Rattle.policy.specs.Whole.{all-used, all-set, fine-well-formed, well-formed-fine}
 use Rattle.policy.specs.Kept.{put-places, put-fine}
 

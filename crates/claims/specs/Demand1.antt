@@ -3,9 +3,8 @@
 use mathlib.Core.Path.{_≡_, ap, _∙_, sym}
 use mathlib.Core.List.{List}
 use Prim.Native.Nat.{ℕ}
-use lib.ListN.{length}
 use Rattle.answer.specs.declared.Answer.{Answer}
-use Rattle.answer.specs.Answers.{Decides, Granted, Leaves}
+use Rattle.answer.specs.Answers.{Decides, Leaves}
 use Rattle.policy.specs.declared.State.{State}
 use Rattle.text.specs.Turn.{textConditions, textGrants, textMakes}
 use Rattle.text.specs.Laws.{one-text-answer, one-text-output}

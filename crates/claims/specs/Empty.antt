@@ -1,15 +1,12 @@
 -- The four empty versions of 01, "Proof obligations of the whole": each is shut out by the promises. They are theorems over any function that answers requests, and not edits of ours, since the promises have to shut out every such program and not only a damaged one.
-use mathlib.Core.Path.{_≡_, refl, sym, ap, _∙_, subst}
-use mathlib.Core.List.{List, []}
-use Prim.Native.Nat.{ℕ, _<_}
+use mathlib.Core.Path.{_≡_, refl, sym, ap, _∙_}
 use native.Mathlib.Nat.{not-suc-le-zero}
-use native.Mathlib.Omega.{arith}
 use lib.Dec.{lit<}
 use Rattle.answer.specs.declared.Answer.{Answer}
 use Rattle.answer.specs.Answers.{Granted}
-use Rattle.policy.specs.declared.Hold.the-variants.{Free, By}
+use Rattle.policy.specs.declared.Hold.the-variants.{By}
 use Rattle.policy.specs.declared.State.{State}
-use Rattle.policy.specs.State.{freshState, holdOf, withHold}
+use Rattle.policy.specs.State.{freshState, holdOf}
 use Rattle.policy.specs.Reads.{hold-here}
 use Rattle.gate.specs.Requests.{beginConditions}
 use Rattle.gate.specs.Lists.{granted-all, all-granted}

@@ -1,30 +1,29 @@
 -- Three examples, proved: sessions have to be told apart; the claim would be false with the mutable parts in it; and a granted bypass can break it. So the hypotheses of demand 3 are needed.
-use mathlib.Core.Path.{_≡_, refl, sym, ap, _∙_, subst}
+use mathlib.Core.Path.{_≡_, refl, sym, _∙_, subst}
 use mathlib.Core.List.{List, [], _∷_}
-use mathlib.Core.Logic.{_⊎_, inl, inr, ⊎-elim}
+use mathlib.Core.Logic.{inl, inr, ⊎-elim}
 use Prim.Native.Nat.{ℕ, _<_}
 use lib.Dec.{lit<, lit≤}
 use native.Mathlib.Omega.{arith}
-use Rattle.securon.specs.Sets.{Set, empty, _⊆_, Apart}
+use Rattle.securon.specs.Sets.{Set, empty, _⊆_}
 use Rattle.tree.specs.declared.Tree.{Tree}
-use Rattle.expression.specs.Expression.{one, Expr, term, Meets}
+use Rattle.expression.specs.Expression.{one, term, Meets}
 use Rattle.expression.specs.declared.Kind.the-variants.{Privilege}
 use Rattle.expression.specs.Judge.{InOrderOver}
-use Rattle.expression.specs.Bytes.{bytes, SET, MeetsT1, MeetsT2}
+use Rattle.expression.specs.Bytes.{SET, MeetsT1}
 use Rattle.expression.specs.Laws.{meets-term}
 use Rattle.expression.specs.Scan.{bytes-some}
 use Rattle.expression.specs.Unique.{one-expression}
 use Rattle.policy.specs.declared.Hold.the-variants.{Free, By}
 use Rattle.policy.specs.declared.State.{State}
-use Rattle.policy.specs.State.{read, write, changeProtection, holdOf, withHold, withEG, vPlusOf, vMinusOf, m1Of, m2Of, bOf, t1Of, eOf, t2Of, gOf}
+use Rattle.policy.specs.State.{read, write, changeProtection, holdOf, withHold, withEG, t1Of, eOf, t2Of, gOf}
 use Rattle.policy.specs.WellFormed.{WellFormed}
-use Rattle.policy.specs.Fresh.{root-depth}
 use Rattle.policy.specs.Kept.{by-kept, free-kept}
 use Rattle.policy.specs.Reads.{hold-here, eg-reads}
-use Rattle.gate.specs.Rules.{PassesRow, Passes, MediatesRow, Mediates, CoversRow, Covers}
-use Rattle.claims.specs.Trace.{Request, begin, end, ask, bypass, Step, Event, Run, none, next, Quiet, Grants, NoEnd, Move, PassesIndelible}
+use Rattle.gate.specs.Rules.{PassesRow, Passes, Mediates, Covers}
+use Rattle.claims.specs.Trace.{begin, end, ask, bypass, Step, Event, Run, none, next, Quiet, Move, PassesIndelible}
 use Rattle.claims.specs.Steps.{granted, done, begin-step, end-step, ask-step, bypass-step}
-use Rattle.claims.specs.MoveLaws.{Confines, move-confines}
+use Rattle.claims.specs.MoveLaws.{move-confines}
 use Rattle.claims.specs.Sample.{root, sample, sample-well-formed, RoleParts, FileParts, sample-role0, sample-role1, sample-role2, sample-file0, sample-file1, sample-file2, sample-file3, sample-depth, sample-free, sample-counts, freed-again}
 
 -- who is in the sets of the sample: 0 in {0}, nobody in length 0

@@ -1,6 +1,6 @@
 -- Content that moves goes only to files that are as hard to read. Assumes nothing.
 use mathlib.Core.Path.{_≡_, refl, sym, ap, _∙_, subst}
-use mathlib.Core.List.{List, [], _∷_, _++_}
+use mathlib.Core.List.{List, _∷_, _++_}
 use Prim.Native.Nat.{ℕ}
 use native.Mathlib.Omega.{arith}
 use lib.ListN.{getD}
@@ -9,15 +9,14 @@ use Rattle.answer.specs.Answers.{Granted}
 use Rattle.securon.specs.Sets.{Set, _⊆_}
 use Rattle.expression.specs.Bytes.{SET}
 use Rattle.policy.specs.declared.Role.{Role}
-use Rattle.policy.specs.declared.Hold.the-variants.{By}
 use Rattle.policy.specs.declared.State.{State}
-use Rattle.policy.specs.State.{read, write, holdOf, eOf, gOf, m1Of, m2Of, rolePart, m1Place, m2Place, offRole}
+use Rattle.policy.specs.State.{read, write, eOf, gOf, m1Of, m2Of, rolePart, m1Place, m2Place, offRole}
 use Rattle.gate.specs.Rules.{Mediates}
 use Rattle.gate.specs.Requests.{Session, Asks, askConditions}
 use Rattle.gate.specs.Lists.{granted-all}
 use Rattle.gate.specs.Laws.{one-role}
-use Rattle.claims.specs.Trace.{Request, ask, Step, Event, Run, none, next, Quiet, Grants, Move, ReachedBy, itself, moved, PassesIndelible}
-use Rattle.claims.specs.TraceLaws.{Kept, kept-then, step-keeps, run-keeps, run-holds, Split, run-split, quiet-split}
+use Rattle.claims.specs.Trace.{Request, ask, Step, Event, Run, next, Quiet, Grants, Move, ReachedBy, itself, moved, PassesIndelible}
+use Rattle.claims.specs.TraceLaws.{Kept, kept-then, run-keeps, run-holds, run-split, quiet-split}
 
 -- who reads b by its indelible parts holds what a's indelible parts ask: E and G of a's Read row are within those of b's
 pub record Confines (s : State) (a b : ℕ) : Type 0 where

@@ -1,18 +1,14 @@
 -- A small policy over the root alone, for worked examples: three roles, four files, and what their parts are. Assumes nothing.
-use mathlib.Core.Path.{_≡_, refl, sym, _∙_, subst}
+use mathlib.Core.Path.{_≡_, refl}
 use mathlib.Core.List.{List, [], _∷_}
 use mathlib.Core.Logic.{inl, inr}
 use Prim.Native.Nat.{ℕ}
 use lib.Dec.{lit<, lit≤}
-use Rattle.securon.specs.Sets.{Set, _⊆_, Apart}
 use Rattle.tree.specs.declared.Tree.{Tree}
 use Rattle.tree.specs.Tree.{IsDepth}
 use Rattle.expression.specs.declared.Kind.{Kind}
-use Rattle.expression.specs.Expression.{one, Expr, term, privilegeSET}
-use Rattle.expression.specs.Bytes.{bytes, InOrder, SET, MeetsT1, MeetsT2}
-use Rattle.expression.specs.Laws.{meets-term}
-use Rattle.expression.specs.Scan.{bytes-some}
-use Rattle.expression.specs.Unique.{one-expression}
+use Rattle.expression.specs.Expression.{one, term}
+use Rattle.expression.specs.Bytes.{InOrder}
 use Rattle.policy.specs.declared.Hold.the-variants.{Free, By}
 use Rattle.policy.specs.declared.State.{State}
 use Rattle.policy.specs.State.{read, write, changeProtection, vPlusPlace, m1Place, bPlace, roleAt, freshState, setNroles, setNfiles, withRole, putRole, putBytes, padded, withT1T2, withEG, withHold, holdOf, vPlusOf, vMinusOf, m1Of, m2Of, bOf, t1Of, eOf, t2Of, gOf}

@@ -2,8 +2,8 @@
 use mathlib.Core.Path.{_≡_, refl, sym, ap, _∙_, subst}
 use mathlib.Core.Bool.{Bool, true, not, _&&_, false≢true}
 use mathlib.Core.List.{List, [], _∷_}
-use mathlib.Core.Logic.{_⊎_, inl, inr, ⊎-elim}
-use Prim.Native.Nat.{ℕ, _+_, _<_, _≤_}
+use mathlib.Core.Logic.{inl, inr}
+use Prim.Native.Nat.{ℕ}
 use native.Mathlib.Decide.{ℕ-discrete}
 use native.Mathlib.Omega.{arith}
 use borrow.Author.Tests.{eq-eqb}
@@ -16,8 +16,6 @@ use Rattle.policy.specs.declared.State.{State}
 use Rattle.policy.specs.State.{freshState}
 use Rattle.policy.specs.WellFormed.{WellFormed}
 use Rattle.policy.specs.Fresh.{fresh-well-formed}
-use Rattle.image.specs.Image.{IsImage}
-use Rattle.image.specs.Load.{Loads, Gives}
 use Rattle.gate.specs.Requests.{beginConditions, endConditions, askConditions, changeConditions, bypassConditions}
 use Rattle.gate.specs.Laws.{begin-kept, end-kept, change-kept, bypass-kept}
 use Rattle.claims.specs.Trace.{Request, load, begin, end, ask, change, bypass, Step, Event, Run, none, next}

@@ -1,10 +1,9 @@
 -- The starred cases of 01, "Examples by hand", whole: one table, proved once of the meanings themselves. Those on SET, T1, E, T2 and G come from `expression`; those on Read and Write are here.
-use mathlib.Core.Path.{_≡_, refl}
 use mathlib.Core.Bool.{Bool, true, false}
 use mathlib.Core.List.{List, [], _∷_, _++_, map}
 use Prim.Native.Nat.{ℕ}
 use Rattle.securon.specs.Sets.{empty}
-use Rattle.expression.specs.Expression.{one, Expr, term, _AND_}
+use Rattle.expression.specs.Expression.{one, term, _AND_}
 use Rattle.expression.specs.Bytes.{bytes, SET}
 use Rattle.expression.specs.Starred.{park, Case, Says, Means, cases}
 use Rattle.policy.specs.State.{read, write}

@@ -1,5 +1,5 @@
 -- The starred table holds: the cases on meanings by the decision of `expression`, those on Read and Write by naming the securon that decides. Assumes nothing.
-use mathlib.Core.Path.{_≡_, refl, sym, subst}
+use mathlib.Core.Path.{refl, sym, subst}
 use mathlib.Core.List.{List, [], _∷_, _++_, map}
 use mathlib.Core.Logic.{inl, inr}
 use Prim.Native.Nat.{ℕ}

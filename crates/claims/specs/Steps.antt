@@ -4,7 +4,7 @@ use mathlib.Core.List.{List}
 use mathlib.Core.Logic.{inr}
 use Prim.Native.Nat.{ℕ, _<_}
 use Rattle.answer.specs.declared.Answer.{Answer}
-use Rattle.answer.specs.Answers.{Granted, Leaves}
+use Rattle.answer.specs.Answers.{Leaves}
 use Rattle.expression.specs.declared.Kind.the-variants.{Privilege}
 use Rattle.expression.specs.Judge.{InOrderOver}
 use Rattle.policy.specs.declared.Hold.the-variants.{Free, By}

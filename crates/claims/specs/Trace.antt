@@ -1,7 +1,6 @@
 -- Requests one after another: what a run of them is, which files content moves between, and what "nobody passes" means. Definitions only.
 use mathlib.Core.Path.{_≡_}
 use mathlib.Core.List.{List, [], _∷_, _++_}
-use mathlib.Core.Logic.{_⊎_}
 use Prim.Native.Nat.{ℕ, _+_, _≤_}
 use lib.ListN.{length}
 use Rattle.answer.specs.declared.Answer.{Answer}
@@ -9,7 +8,7 @@ use Rattle.answer.specs.Answers.{Granted}
 use Rattle.securon.specs.Sets.{Set, _⊆_, Apart}
 use Rattle.expression.specs.Bytes.{SET}
 use Rattle.policy.specs.declared.State.{State}
-use Rattle.policy.specs.State.{read, write, t1Of, eOf, gOf}
+use Rattle.policy.specs.State.{read, write, eOf, gOf}
 use Rattle.image.specs.Load.{Loads}
 use Rattle.gate.specs.Requests.{Begins, Ends, Asks, Changes, Bypasses}
 

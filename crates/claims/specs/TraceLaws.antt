@@ -1,25 +1,19 @@
 -- What every step and every run keeps. Assumes nothing.
 use mathlib.Core.Path.{_≡_, refl, sym, ap, _∙_, subst}
 use mathlib.Core.List.{List, [], _∷_, _++_}
-use mathlib.Core.Logic.{_⊎_, inl, inr, ⊎-elim, _↔_}
-use Prim.Native.Nat.{ℕ, _<_, _≤_}
+use Prim.Native.Nat.{ℕ, _<_}
 use native.Mathlib.Decide.{ℕ-discrete}
 use native.Mathlib.Omega.{arith}
-use lib.ListN.{length, getD}
 use Rattle.answer.specs.declared.Answer.{Answer}
 use Rattle.answer.specs.Answers.{Granted}
-use Rattle.securon.specs.Sets.{Set}
-use Rattle.tree.specs.declared.Tree.{Tree}
-use Rattle.expression.specs.Bytes.{longest, SET}
-use Rattle.policy.specs.declared.Role.{Role}
 use Rattle.policy.specs.declared.Hold.{Hold}
 use Rattle.policy.specs.declared.Hold.the-variants.{Free, By}
 use Rattle.policy.specs.declared.State.{State}
-use Rattle.policy.specs.State.{modeCount, slotCount, holdOf, eOf, gOf, m1Of, m2Of, rolePart, m1Place, m2Place, offRole, withHold, withT1T2}
+use Rattle.policy.specs.State.{modeCount, holdOf, eOf, gOf, withHold, withT1T2}
 use Rattle.policy.specs.Reads.{hold-there, change-keeps}
 use Rattle.gate.specs.Requests.{beginConditions, endConditions, changeConditions}
 use Rattle.gate.specs.Lists.{granted-all}
-use Rattle.claims.specs.Trace.{Request, load, begin, end, ask, change, bypass, Step, Event, Run, none, next, Grants, Resets, Quiet, NoEnd}
+use Rattle.claims.specs.Trace.{Request, load, begin, end, ask, change, bypass, Step, Event, Run, none, next, Resets, Quiet, NoEnd}
 
 -- the tree, the roles and every indelible part of t are those of s
 pub record Kept (s t : State) : Type 0 where

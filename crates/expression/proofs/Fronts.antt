@@ -1,9 +1,9 @@
 -- What stands at the front of some bytes, by its first byte. Assumes nothing.
-use mathlib.Core.Path.{_≡_, refl, sym, ap, _∙_, subst}
+use mathlib.Core.Path.{_≡_, sym, ap, _∙_, subst}
 use mathlib.Core.Bool.{Bool, true, _&&_, _||_}
 use mathlib.Core.List.{List, [], _∷_, _++_, append-assoc, append-nil}
-use mathlib.Core.Logic.{_⊎_, inl, inr, ⊎-elim, _↔_}
-use Prim.Native.Nat.{ℕ, suc, _+_, _-_, _<_, _≤_}
+use mathlib.Core.Logic.{⊎-elim, _↔_}
+use Prim.Native.Nat.{ℕ, suc, _+_, _<_, _≤_}
 use native.Mathlib.Omega.{arith}
 use lib.ListN.{length, getD, drop, length-append}
 use lib.Seq.{drop-append-seam, drop-drop}
@@ -15,7 +15,7 @@ use Rattle.expression.specs.declared.Kind.{Kind}
 use Rattle.expression.specs.Bytes.{bytes, Fits, Right, MeetsBytes}
 use Rattle.expression.specs.Laws.{meets-term, meets-AND, meets-OR}
 use Rattle.expression.specs.Fronts.{Front, TermFront, Tests, TestsTerm}
-use Rattle.expression.proofs.Scanning.{from, from-drop, from-length}
+use Rattle.expression.proofs.Scanning.{from, from-drop}
 
 -- the byte at k of a list that is known
 byte : {bs l : List ℕ} (k : ℕ) → bs ≡ l → getD bs k 0 ≡ getD l k 0

@@ -7,14 +7,14 @@ use Prim.Native.Nat.{ℕ, _+_, _-_, _<_, _≤_}
 use native.Mathlib.Omega.{arith}
 use borrow.Author.Needs.{zero≤}
 use lib.ListN.{length, getD, drop, length-drop, length-append}
-use lib.Seq.{drop-drop, drop-append-seam, drop-length}
+use lib.Seq.{drop-drop, drop-append-seam}
 use Rattle.securon.specs.Sets.{Set, empty, _≐_, marked}
-use Rattle.securon.specs.Iff.{iff-trans, iff-sym}
+use Rattle.securon.specs.Iff.{iff-trans}
 use Rattle.tree.specs.declared.Tree.{Tree}
 use Rattle.expression.specs.declared.Kind.the-variants.{Privilege}
-use Rattle.expression.specs.Expression.{Term, one, range, Expr, term, _AND_, _OR_, termSET, privilegeSET}
-use Rattle.expression.specs.Bytes.{bytes, Fits, Right, SET}
-use Rattle.expression.specs.Scan.{cat, AllFit, cons-nil, bytes-some}
+use Rattle.expression.specs.Expression.{Term, one, range, Expr, term, _AND_, _OR_, privilegeSET}
+use Rattle.expression.specs.Bytes.{bytes, Right, SET}
+use Rattle.expression.specs.Scan.{cat, AllFit, bytes-some}
 use Rattle.expression.specs.Unique.{one-expression}
 use Rattle.expression.specs.Fronts.{TermFront, AddsTerm}
 use Rattle.expression.proofs.Scanning.{from, from-drop}

@@ -13,7 +13,7 @@ use Rattle.expression.specs.declared.Scanned.{Scanned}
 use Rattle.expression.specs.declared.Scanned.the-variants.{Whole, Short, Fault}
 use Rattle.expression.specs.declared.Checked.{Checked}
 use Rattle.expression.specs.declared.Checked.the-variants.{Fine, Wrong}
-use Rattle.expression.specs.Expression.{Term, one, range, Expr, term, _AND_, _OR_, privilegeSET, Meets}
+use Rattle.expression.specs.Expression.{one, range, Expr, term, _AND_, _OR_, privilegeSET, Meets}
 
 -- the most bytes that an expression has
 abbrev pub longest : ℕ

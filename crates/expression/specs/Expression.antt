@@ -1,6 +1,5 @@
 -- Expressions and what they mean (01, "Expressions and what they mean"; 002, 2.3 to 2.5).
 use mathlib.Core.Path.{_≡_}
-use mathlib.Core.List.{List}
 use mathlib.Core.Logic.{_⊎_}
 use Prim.Native.Nat.{ℕ, _<_, _≤_}
 use Rattle.securon.specs.Sets.{Set, empty, only, _∪_, _⊆_, Marks, on, markOf, _⊔_}

@@ -1,7 +1,7 @@
 -- What is answered on any bytes whatever, over a tree: the place for 6, or what the bytes mean.
 use mathlib.Core.List.{List}
 use Prim.Native.Nat.{ℕ}
-use Rattle.securon.specs.Sets.{Set, empty, _≐_, marked}
+use Rattle.securon.specs.Sets.{Set, empty, _≐_}
 use Rattle.tree.specs.declared.Tree.{Tree}
 use Rattle.tree.specs.Tree.{IsDepth}
 use Rattle.expression.specs.declared.Kind.{Kind}
@@ -10,7 +10,6 @@ use Rattle.expression.specs.declared.Mutable.{Mutable}
 use Rattle.expression.specs.declared.Mutable.the-variants.{T1, T2}
 use Rattle.expression.specs.declared.Judged.{Judged}
 use Rattle.expression.specs.declared.Judged.the-variants.{Met, NotMet, Faulty}
-use Rattle.expression.specs.declared.Named.{Named}
 use Rattle.expression.specs.declared.Checked.{Checked}
 use Rattle.expression.specs.declared.Checked.the-variants.{Fine, Wrong}
 use Rattle.expression.specs.Bytes.{InOrder, WrongAt, SET, MeetsT1, MeetsT2}

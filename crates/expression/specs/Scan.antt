@@ -1,7 +1,7 @@
 -- What may still follow while the bytes of an expression are met from the front: so many whole expressions. A device of the proofs. Assumes nothing.
 use mathlib.Core.Path.{_≡_, refl, sym, ap, _∙_, subst}
 use mathlib.Core.List.{List, [], _∷_, _++_, append-assoc, append-nil}
-use mathlib.Core.Logic.{_⊎_, inl, inr, ⊎-elim, _↔_}
+use mathlib.Core.Logic.{inr, ⊎-elim, _↔_}
 use Prim.Native.Nat.{ℕ, zero, suc, _+_, _<_, _≤_}
 use native.Mathlib.Nat.{le-refl}
 use native.Mathlib.Omega.{arith}
@@ -11,7 +11,7 @@ use Rattle.answer.specs.Faults.{Begins, FaultAt}
 use Rattle.answer.specs.Laws.{fault-after, fault-here}
 use Rattle.securon.specs.Iff.{iff-trans}
 use Rattle.expression.specs.declared.Kind.{Kind}
-use Rattle.expression.specs.Expression.{Term, one, range, Expr, term, _AND_, _OR_}
+use Rattle.expression.specs.Expression.{one, range, Expr, term, _AND_, _OR_}
 use Rattle.expression.specs.Bytes.{bytes, MayOR, Fits, Written, Right}
 
 -- the bytes of expressions, one after the other

@@ -1,9 +1,9 @@
 -- Bytes are those of one expression at most. Assumes nothing.
-use mathlib.Core.Path.{_≡_, refl, sym, ap, ap₂, _∙_}
-use mathlib.Core.List.{List, [], _∷_, _++_, append-assoc, append-nil}
+use mathlib.Core.Path.{_≡_, sym, ap, ap₂, _∙_}
+use mathlib.Core.List.{List, [], _++_, append-assoc, append-nil}
 use Prim.Native.Nat.{ℕ}
 use native.Mathlib.Omega.{arith}
-use Rattle.expression.specs.Expression.{Term, one, range, Expr, term, _AND_, _OR_}
+use Rattle.expression.specs.Expression.{one, range, Expr, term, _AND_, _OR_}
 use Rattle.expression.specs.Bytes.{bytes}
 use Rattle.expression.specs.Scan.{head-is, tail-is}
 

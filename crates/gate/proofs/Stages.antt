@@ -4,6 +4,7 @@ use mathlib.Core.Bool.{Bool, true, false}
 use mathlib.Core.List.{List, [], _∷_, _++_}
 use mathlib.Core.Logic.{inl, inr, _↔_}
 use Prim.Native.Nat.{ℕ, _<_}
+use native.Mathlib.Decide.{ℕ-discrete}
 use native.Mathlib.Omega.{arith}
 use lib.ListN.{getD, set}
 use lib.Seq.{set-getD}
@@ -24,7 +25,7 @@ use Rattle.policy.specs.declared.Hold.the-variants.{Free, By}
 use Rattle.policy.specs.declared.Slot.{Slot}
 use Rattle.policy.specs.declared.State.{State}
 use Rattle.policy.specs.declared.Examined.{Examined}
-use Rattle.policy.specs.State.{freeSlot, roleAt, fileAt, holdOf, withHold, withFile}
+use Rattle.policy.specs.State.{freeSlot, roleAt, fileAt, holdOf, withHold, withFile, putPair, withPair}
 use Rattle.policy.specs.WellFormed.{RoleInOrder, FileInOrder, WellFormed, Examines}
 use Rattle.policy.specs.Whole.{free-held}
 use Rattle.gate.specs.declared.Effect.{Effect}
@@ -32,7 +33,7 @@ use Rattle.gate.specs.Requests.{Taken, Session, sessionConditions, Answe
 use Rattle.gate.specs.Effects.{effectOf, after, Tells}
 use Rattle.gate.specs.Lists.{AllHold, refuses, granted-all, refused-first, then-second}
 use Rattle.gate.specs.Laws.{one-role}
-use Rattle.gate.specs.Parts.{AtHand}
+use Rattle.gate.specs.Parts.{AtHand, StoredIs}
 
 -- a slot that is not free holds a role, and one that is free holds none
 pub some-role : (h : Hold) → (h ≡ Free → ⊥) → (role : ℕ) × (h ≡ By role)
@@ -130,3 +131,15 @@ module _ {cs : List Condition} {made s : State} {a : Answer} {e : Effect} (d : A
 
   pub tells-refused : e .at < 32 → (Granted a → ⊥) → after s e ≡ s → Tells s (Does cs made s) e
   tells-refused l n q = record { within = l; is = record { decides = rw same d; leaves = record { on-grant = λ g. absurd (n (rw same at g)); on-refusal = λ _. q } } }
+
+-- both: a grant stores two expressions from place k of the file on, a refusal stores nothing
+pub tells-stored : {s : State} {slot file : ℕ} {seen : Examined} → Examines s slot file seen → (cs : List Condition) (a : Answer) (k : ℕ) (p q : List ℕ) (e : Effect) → Answers cs a → (Granted a → AllHold (sessionConditions s slot) × (file < s .nfiles)) → StoredIs seen a k p q e → Tells s (Does cs (withPair s file k p q) s) e
+tells-stored {s} {slot} {file} {seen} x cs a k p q e d all r = go (ℕ-discrete (a .number) 0)
+  where
+    go : Dec (Granted a) → Tells s (Does cs (withPair s file k p q) s) e
+    go (yes g) =
+        let (ses, l) = all g in
+        let at = x .at-is (omega (arith, ses .0 .file-count)) in
+        let made = ap (λ (f : File). putPair f k p q) (file-seen x ses l) in
+        rw (r .granted g) (tells-granted d refl (x .within) g (after-file x a (putPair (seen .file) k p q) at ∙ ap (withFile s file) made))
+    go (no n) = rw (r .refused n) (tells-refused d refl (x .within) n (after-kept x a))

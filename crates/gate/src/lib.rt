@@ -16,18 +16,19 @@ ghost use mathlib.Core.Bool.{true};
 ghost use mathlib.Core.List.{[], _∷_};
 ghost use mathlib.Core.Logic.{_↔_};
 ghost use Prim.Native.Nat.{_<_, _≤_};
-ghost use lib.ListN.{getD, set};
+ghost use lib.ListN.{length, getD, set};
+ghost use Rattle.answer.specs.Answers.{Granted};
 ghost use Rattle.securon.specs.Sets.{_≐_, _⊆_, marked};
-ghost use Rattle.expression.specs.Bytes.{Right, SET, MeetsT1, MeetsT2};
+ghost use Rattle.expression.specs.Bytes.{longest, Right, SET, MeetsT1, MeetsT2};
 ghost use Rattle.expression.specs.Fronts.{Ready};
 ghost use Rattle.expression.specs.declared.Kind.the-variants.{Privilege, Protection};
 ghost use Rattle.policy.specs.declared.Hold.the-variants.{Free};
-ghost use Rattle.policy.specs.State.{modeCount, slotCount, mostFiles, rolePlaces, filePlaces, rolePart, filePart, freeSlot};
+ghost use Rattle.policy.specs.State.{modeCount, slotCount, mostFiles, filePlace, rolePlaces, filePlaces, rolePart, filePart, freeSlot};
 ghost use Rattle.policy.specs.WellFormed.{PartInOrder};
 ghost use Rattle.gate.specs.Rules.{MediatesRow, EntersOrLeaves};
 ghost use Rattle.gate.specs.Requests.{second, inOrder, sessionConditions, rowConditions, expressionConditions, storeConditions, beginConditions, bypassConditions, Answers, Begins, Ends, Asks, Changes, Bypasses};
 ghost use Rattle.gate.specs.Effects.{effectOf, outcome, Tells};
-ghost use Rattle.gate.specs.Parts.{AtHand, PlusPasses, MinusPasses, RolePasses, RoleMediates, RoleCovers, Seen, Of, OfAll};
+ghost use Rattle.gate.specs.Parts.{AtHand, PlusPasses, MinusPasses, RolePasses, RoleMediates, RoleCovers, Seen, Of, OfAll, StoredIs};
 
 // What is added to the places of a request's second expression.
 const SECOND: usize = 256;
@@ -404,6 +405,19 @@ fn slot_effect(seen: Examined, answer: Answer, slot: usize, hold: Hold) -> Effec
     }
 }
 
+// With a grant, the file with both stored in its row of that mode, from that part on and two parts on: T1 with T2, or E with G. Else the file as it is.
+fn store_effect(seen: Examined, answer: Answer, mode: u8, part: usize, x: &[u8], y: &[u8]) -> Effect
+    requires { ⌜ (part < 2) × (Granted answer → (mode < modeCount) × (length (now x) ≤ longest) × (length (now y) ≤ longest)) ⌝ }
+    ensures { λ r. ⌜ StoredIs seen answer (filePlace mode part) (now (x .entry)) (now (y .entry)) r ⌝ }
+{
+    let old = seen.file;
+    if answer.granted() {
+        let k = policy::file_place(mode as usize, part);
+        return file_effect(seen, answer, old.put_pair(k, x, y));
+    }
+    file_effect(seen, answer, old)
+}
+
 // begin(slot, role): a free slot is to hold the role asked for.
 pub fn begin_effect(s: State, slot: u8, role: u8) -> Effect
     ensures { λ r. ⌜ Tells s (Begins s slot role) r ⌝ }
@@ -446,12 +460,7 @@ pub fn change_effect(s: State, slot: u8, file: u8, mode: u8, t1: &[u8], t2: &[u8
 {
     let seen = s.well_formed(slot as usize, file as usize);
     let answer = store_answer(seen, slot, file, mode, Kind::Protection, t1, t2);
-    let old = seen.file;
-    if answer.granted() {
-        let k = policy::file_place(mode as usize, policy::T1);
-        return file_effect(seen, answer, old.put_pair(k, t1, t2));
-    }
-    file_effect(seen, answer, old)
+    store_effect(seen, answer, mode, policy::T1, t1, t2)
 }
 
 // bypass(slot, file, mode, E, G): both are to be stored in the file's row of that mode.
@@ -460,12 +469,7 @@ pub fn bypass_effect(s: State, slot: u8, file: u8, mode: u8, e: &[u8], g: &[u8])
 {
     let seen = s.well_formed(slot as usize, file as usize);
     let answer = bypass_answer(seen, slot, file, mode, e, g);
-    let old = seen.file;
-    if answer.granted() {
-        let k = policy::file_place(mode as usize, policy::E);
-        return file_effect(seen, answer, old.put_pair(k, e, g));
-    }
-    file_effect(seen, answer, old)
+    store_effect(seen, answer, mode, policy::E, e, g)
 }
 
 // The answer of an effect, and the state after it.

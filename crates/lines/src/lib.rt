@@ -1,7 +1,7 @@
 // How an answer is printed as a line, and how a line of input is collected.
 ghost use mathlib.Core.Path.{_≡_};
-ghost use mathlib.Core.List.{List, _∷_, []};
-ghost use Prim.Native.Nat.{ℕ, _≤_, _<_, _+_, _*_, _/_, _%_, min};
+ghost use mathlib.Core.List.{_∷_, []};
+ghost use Prim.Native.Nat.{_≤_, _<_, _+_, _*_, _/_, _%_, min};
 ghost use lib.ListN.{length, take};
 ghost use Rattle.io.specs.Digits.{glyph as Digits·glyph};
 ghost use Rattle.lines.specs.Lines.{hexes as Lines·hexes, Fills, Collected};

@@ -3,7 +3,7 @@ use mathlib.Core.Path.{_≡_, refl, sym, ap, ap₂, _∙_, subst}
 use mathlib.Core.Bool.{cond}
 use mathlib.Core.List.{List, [], _∷_, _++_}
 use mathlib.Core.Logic.{inl, inr}
-use Prim.Native.Nat.{ℕ, _+_, _<_, _≤_}
+use Prim.Native.Nat.{ℕ, _+_, _≤_}
 use native.Mathlib.Decide.{decLe}
 use native.Mathlib.Omega.{arith}
 use lib.Dec.{eqb}
@@ -17,7 +17,7 @@ use Rattle.claims.specs.Trace.{Request, load, begin, end, ask, change, bypass, 
 use Rattle.claims.specs.Demand1.{Same, one-answer-and-one-state}
 use Rattle.lines.specs.Lines.{Line}
 use Rattle.lines.specs.Laws.{one-line}
-use Rattle.script.specs.Script.{Reads, a-begin, an-end, an-ask, a-change, a-bypass, Plays, ended, called, cut, Loaded, Prints, stated, imageIn, over, Filled, Replays}
+use Rattle.script.specs.Script.{Reads, a-begin, an-end, an-ask, a-change, a-bypass, Plays, ended, called, cut, Prints, stated, imageIn, over, Replays}
 use Rattle.script.specs.Records.{secondAt, endAt, firstOf, secondOf, storeIn, second-length}
 
 -- ---- one record

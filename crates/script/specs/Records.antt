@@ -7,7 +7,7 @@ use native.Mathlib.Decide.{ℕ-discrete}
 use lib.Dec.{eqb}
 use native.Mathlib.Omega.{arith}
 use lib.ListN.{length, getD, take, drop, length-append, take-append-drop, length-drop}
-use lib.Seq.{take-append-seam, drop-append-seam, length-take-le, drop-drop, drop-cons, getD-drop, getD-append-seam}
+use lib.Seq.{length-take-le, drop-drop, drop-cons, getD-drop, getD-append-seam}
 use Rattle.image.specs.Image.{expressionBytes}
 use Rattle.claims.specs.Trace.{Request, begin, end, ask, change, bypass}
 use Rattle.script.specs.Script.{Reads, a-begin, an-end, an-ask, a-change, a-bypass}

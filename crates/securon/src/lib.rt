@@ -1,8 +1,8 @@
 // Securons, levels, and sets of securons (01, "The tree"; 002, 2.1).
 ghost use mathlib.Core.Path.{_≡_};
-ghost use mathlib.Core.Bool.{Bool, true};
+ghost use mathlib.Core.Bool.{true};
 ghost use mathlib.Core.Logic.{_↔_};
-ghost use Prim.Native.Nat.{ℕ, _<_};
+ghost use Prim.Native.Nat.{_<_};
 ghost use Rattle.securon.specs.Sets.{securons, empty, only, _∪_, _⊆_, _≐_, Apart, marked};
 
 // The most securons that a tree has.

@@ -11,7 +11,7 @@ use Rattle.securon.specs.Sets.{securons}
 use Rattle.tree.specs.declared.Tree.{Tree}
 use Rattle.tree.specs.declared.Shape.{Shape}
 use Rattle.tree.specs.declared.Shape.the-variants.{Grown, CountWrong, ParentWrong}
-use Rattle.tree.specs.Tree.{Reaches, here, up, Related, HasLevel, root, child, SmallerBelow, Climbs, IsTree, IsDepth, Shaped}
+use Rattle.tree.specs.Tree.{Reaches, here, up, Related, HasLevel, root, child, Climbs, IsTree, IsDepth, Shaped}
 
 -- a walk that is not at its end goes on from the parent
 pub reaches-up : {p : List ℕ} {a b : ℕ} → Reaches p a b → (a ≡ b → ⊥) → Reaches p (getD p a 0) b

@@ -1,5 +1,4 @@
 -- The tree of securons (01, "The tree"; 002, 2.1).
-use mathlib.Core.Path.{_≡_}
 use mathlib.Core.List.{List}
 use mathlib.Core.Logic.{_⊎_}
 use Prim.Native.Nat.{ℕ, suc, _<_, _≤_}

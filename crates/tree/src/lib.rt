@@ -3,7 +3,7 @@ use securon::Level;
 use securon::SECURONS;
 use securon::Securon;
 ghost use mathlib.Core.Path.{_≡_};
-ghost use mathlib.Core.Bool.{Bool, true};
+ghost use mathlib.Core.Bool.{true};
 ghost use mathlib.Core.Logic.{_↔_};
 ghost use Rattle.tree.specs.Tree.{Reaches, Related, Climbs, IsTree, LevelsOf, Shaped};
 

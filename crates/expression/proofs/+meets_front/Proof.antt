@@ -1,5 +1,5 @@
 -- `expression::meets_front` meets its contract: a term is tested, and an operator joins the answers on its operands. The measure is the number of the remaining bytes. Assumes nothing.
-use mathlib.Core.Path.{_≡_, refl, sym, ap, _∙_, subst}
+use mathlib.Core.Path.{_≡_, sym, subst}
 use mathlib.Core.List.{_++_}
 use native.Mathlib.Omega.{arith}
 use borrow.Author.Needs.{needs}
@@ -7,7 +7,7 @@ use lib.ListN.{length}
 use Rattle.expression.proofs.Scanning.{from, from-length}
 use Rattle.expression.specs.Bytes.{bytes}
 use Rattle.expression.specs.Fronts.{Front}
-use Rattle.expression.proofs.Fronts.{front-some, front-term, Operator, front-operator, tests-term, tests-operator}
+use Rattle.expression.proofs.Fronts.{front-some, front-term, front-operator, tests-term, tests-operator}
 use Prim.Native.Nat.{ℕ, _+_, _<_}
 use borrow.Fn.Kinds.{In}
 use borrow.Fn.PlainCycle.{Measures, is, falls, and}

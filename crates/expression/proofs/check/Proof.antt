@@ -1,8 +1,7 @@
 -- `expression::check` meets its contract: the length is judged first, and then the scan says it. Assumes nothing.
-use mathlib.Core.Path.{_≡_, refl, subst}
+use mathlib.Core.Path.{refl, subst}
 use mathlib.Core.Logic.{inl, inr}
 use native.Mathlib.Omega.{arith}
-use Rattle.expression.specs.declared.Scanned.{Scanned}
 use Rattle.expression.specs.Bytes.{Finds}
 use borrow.Author.Needs.{needs}
 use Rattle.expression.proofs.check.Statement.{statement}

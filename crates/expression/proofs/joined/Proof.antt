@@ -1,6 +1,5 @@
 -- `expression::joined` meets its contract: AND wants both, and any other operator one. Assumes nothing.
-use mathlib.Core.Path.{_≡_, refl, sym}
-use mathlib.Core.Bool.{true, false, _&&_, _||_}
+use mathlib.Core.Path.{refl}
 use Rattle.expression.proofs.joined.Statement.{statement}
 use Rattle.expression.proofs.joined.Tie as tie
 

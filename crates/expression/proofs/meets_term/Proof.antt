@@ -4,10 +4,9 @@ use mathlib.Core.Bool.{true}
 use mathlib.Core.Logic.{_↔_}
 use Prim.Native.Nat.{ℕ}
 use native.Mathlib.Omega.{arith}
-use lib.ListN.{getD}
-use Rattle.securon.specs.Sets.{_∪_, _≐_, marked}
+use Rattle.securon.specs.Sets.{marked}
 use Rattle.securon.specs.Iff.{iff-trans}
-use Rattle.expression.specs.Expression.{Term, one, range, termSET}
+use Rattle.expression.specs.Expression.{Term, termSET}
 use Rattle.expression.proofs.Fronts.{is-one, is-range, term-named, term-long}
 use Rattle.expression.proofs.meets_term.Statement.{statement}
 use Rattle.expression.proofs.meets_term.Tie as tie

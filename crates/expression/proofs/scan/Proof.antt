@@ -1,18 +1,16 @@
 -- `expression::scan` meets its contract: at the place reached, `due` whole expressions are to follow. The measure is what is left of the bytes. Assumes nothing.
-use mathlib.Core.Path.{_≡_, refl, sym, ap, _∙_, subst}
-use mathlib.Core.Bool.{Bool, true, false, false≢true}
-use mathlib.Core.List.{List, [], _∷_}
+use mathlib.Core.Path.{_≡_, subst}
+use mathlib.Core.Bool.{true}
 use mathlib.Core.Logic.{inl, inr, ⊎-elim, _↔_}
-use Prim.Native.Nat.{ℕ, suc, _+_, _≤_, _<_, _-_}
+use Prim.Native.Nat.{ℕ, _≤_, _-_}
 use native.Mathlib.Omega.{arith}
 use borrow.Author.Needs.{needs}
 use borrow.Author.Tests.{not-true, not-false}
-use lib.ListN.{length, getD, drop, length-drop}
+use lib.ListN.{length}
 use Rattle.expression.specs.declared.Kind.{Kind}
 use Rattle.securon.specs.Iff.{not-then-false}
-use Rattle.expression.specs.Bytes.{MayOR, Finds}
+use Rattle.expression.specs.Bytes.{MayOR}
 use Rattle.expression.specs.Scan.{nil-of}
-use Rattle.expression.specs.Heads.{Head}
 use Rattle.expression.proofs.Scanning.{At, from-length, at-start, at-operator, at-term, at-stuck, at-over, at-whole, at-short, finds-stopped}
 use Rattle.expression.proofs.scan.Statement.{statement}
 use Rattle.expression.proofs.scan.Tie as tie

@@ -1,5 +1,4 @@
 -- `expression::term_part` meets its contract: 01 and 02 begin a term, and nothing else does. Assumes nothing.
-use native.Mathlib.Omega.{arith}
 use borrow.Author.Needs.{zero≤}
 use Rattle.expression.specs.Scan.{rest-other}
 use Rattle.expression.proofs.Terms.{head-stuck, code-stuck}

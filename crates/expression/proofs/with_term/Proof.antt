@@ -1,12 +1,8 @@
 -- `expression::with_term` meets its contract: the first byte says which term it is. Assumes nothing.
-use mathlib.Core.Path.{_≡_, refl, sym, subst}
-use mathlib.Core.Logic.{_↔_}
-use Prim.Native.Nat.{ℕ}
+use mathlib.Core.Path.{sym, subst}
 use native.Mathlib.Omega.{arith}
-use lib.ListN.{getD}
 use Rattle.securon.specs.Sets.{_∪_, _≐_, marked}
-use Rattle.securon.specs.Iff.{iff-trans}
-use Rattle.expression.specs.Expression.{Term, one, range, termSET}
+use Rattle.expression.specs.Expression.{Term, termSET}
 use Rattle.expression.proofs.Fronts.{is-one, is-range, term-named, term-long}
 use Rattle.expression.proofs.with_term.Statement.{statement}
 use Rattle.expression.proofs.with_term.Tie as tie

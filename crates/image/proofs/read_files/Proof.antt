@@ -3,7 +3,7 @@ use Prim.Native.Nat.{_≤_, _-_}
 use native.Mathlib.Omega.{arith}
 use borrow.Author.Needs.{needs}
 use Rattle.policy.specs.State.{mostFiles, offFile, noFile}
-use Rattle.policy.specs.Fine.{OneIs, roleShelves, fileShelves}
+use Rattle.policy.specs.Fine.{OneIs, fileShelves}
 use Rattle.image.specs.Image.{fileBytes}
 use Rattle.image.specs.Faults.{fileFields}
 use Rattle.image.specs.Reading.{Rows}

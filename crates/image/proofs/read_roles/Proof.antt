@@ -3,7 +3,7 @@ use Prim.Native.Nat.{_≤_, _-_}
 use native.Mathlib.Omega.{arith}
 use borrow.Author.Needs.{needs}
 use Rattle.policy.specs.State.{mostRoles, offRole, noRole}
-use Rattle.policy.specs.Fine.{OneIs, roleShelves, fileShelves}
+use Rattle.policy.specs.Fine.{OneIs, roleShelves}
 use Rattle.image.specs.Image.{roleBytes}
 use Rattle.image.specs.Faults.{roleFields}
 use Rattle.image.specs.Reading.{Rows}

@@ -1,5 +1,5 @@
 -- `replay::refill` is safe and ends: what is held fits in the window. Assumes nothing.
-use mathlib.Core.Path.{_≡_, refl, _∙_}
+use mathlib.Core.Path.{_≡_, refl}
 use mathlib.Core.List.{List}
 use Prim.Native.Nat.{ℕ, _+_, _≤_, _-_}
 use native.Mathlib.Nat.{le-refl}

@@ -1,7 +1,7 @@
 -- `replay::run` is safe and ends. The measure is the number of turns that are left. Assumes nothing.
 use mathlib.Core.Path.{_≡_}
 use mathlib.Core.List.{List, [], _∷_}
-use Prim.Native.Nat.{ℕ, zero, suc, _+_, _-_, _≤_, suc-le-suc}
+use Prim.Native.Nat.{ℕ, zero, suc, _-_, _≤_, suc-le-suc}
 use native.Mathlib.Omega.{arith}
 use borrow.Author.Needs.{needs, zero≤}
 use lib.ListN.{length, take, drop}

@@ -1,5 +1,5 @@
 -- `script::bounds_in` meets its contract: each length is read and tested before it is used. Assumes nothing.
-use mathlib.Core.Path.{_≡_, refl, ap}
+use mathlib.Core.Path.{ap}
 use Prim.Native.Nat.{ℕ, _+_}
 use lib.ListN.{getD}
 use mathlib.Core.Bool.{true≢false, false≢true}

@@ -1,14 +1,14 @@
 -- `script::play_store` meets its contract: with all its bytes there it is a record, else none. Assumes nothing.
-use mathlib.Core.Path.{_≡_, refl, subst}
+use mathlib.Core.Path.{refl, subst}
 use mathlib.Core.List.{List}
 use Prim.Native.Nat.{ℕ, _-_}
 use native.Mathlib.Omega.{arith}
 use lib.ListN.{getD, take, drop}
 use borrow.Author.Tests.{not-true, not-false}
-use Rattle.script.specs.Records.{firstOf, secondOf, storeOf, storeIn, stored-cut, store-whole}
+use Rattle.script.specs.Records.{secondOf, storeOf, storeIn, stored-cut, store-whole}
 use Rattle.gate.specs.Effects.{after}
 use Rattle.claims.specs.Trace.{Step}
-use Rattle.script.specs.PlayLaws.{says-cut, Parts, parts}
+use Rattle.script.specs.PlayLaws.{says-cut, parts}
 use borrow.Author.Needs.{needs}
 use Rattle.script.proofs.play_store.Statement.{statement}
 use Rattle.script.proofs.play_store.Tie as tie

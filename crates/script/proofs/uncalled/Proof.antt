@@ -1,5 +1,5 @@
 -- `script::uncalled` meets its contract: what stands there is given back. Assumes nothing.
-use mathlib.Core.Path.{_≡_, refl, ap}
+use mathlib.Core.Path.{refl, ap}
 use mathlib.Core.List.{List}
 use lib.Seq.{set-getD}
 use native.Mathlib.Omega.{arith}

@@ -1,8 +1,8 @@
 -- `tree::reaches` meets its contract: from where the walk stands the target is reached exactly if it is from the start. The measure is the number at which the walk stands. Assumes nothing.
-use mathlib.Core.Path.{_≡_, refl, subst}
+use mathlib.Core.Path.{refl, subst}
 use mathlib.Core.Bool.{true, false≢true}
 use mathlib.Core.Logic.{_↔_}
-use Prim.Native.Nat.{ℕ, suc, _<_}
+use Prim.Native.Nat.{ℕ, _<_}
 use native.Mathlib.Nat.{le-refl}
 use native.Mathlib.Omega.{arith}
 use Rattle.securon.specs.Iff.{iff-refl}

@@ -1,10 +1,6 @@
 -- `tree::related` meets its contract: of the two walks the one from the smaller number could only reach smaller ones. Assumes nothing.
-use mathlib.Core.Path.{_≡_, refl, subst}
-use mathlib.Core.Logic.{inl, inr, ⊎-elim, _↔_}
-use Prim.Native.Nat.{ℕ, _≤_}
 use native.Mathlib.Omega.{arith}
 use Rattle.securon.specs.Iff.{iff-trans}
-use Rattle.tree.specs.Tree.{Reaches, here, Related, Climbs}
 use Rattle.tree.specs.Laws.{related-below, related-sym}
 use borrow.Author.Needs.{needs}
 use Rattle.tree.proofs.related.Statement.{statement}

@@ -1,5 +1,5 @@
 -- `vectors::cases::decoded` ends and writes no byte past the last. Assumes nothing.
-use Prim.Native.Nat.{ℕ, _≤_, _-_}
+use Prim.Native.Nat.{_≤_, _-_}
 use native.Mathlib.Omega.{arith}
 use borrow.Author.Needs.{needs}
 use Rattle.vectors.proofs.cases.decoded.Statement.{statement}
