@@ -31,219 +31,9 @@ abbrev meets-front-below : ℕ → In 1 meets-front-kinds.ps
 meets-front-below t =
     and 1 meets-front-kinds.ps (falls 1 meets-front-kinds.ps _<_ μ-meets-front t) meets-front.Pre
 
-meets-front-shared-slice-read-code : (t : ℕ) → meets-front-lts.Need-shared-slice-read-code (
-  meets-term-reads.Asked,
-  meets-term-reads.Learnt,
-  width-reads.Asked,
-  width-reads.Learnt,
-  meets-front-below t,
-  meets-front.Post,
-  joined-reads.Asked,
-  joined-reads.Learnt,
-) (meets-front-at t) meets-front.Post
-meets-front-shared-slice-read-code t c = front-some (c .before .before .pre .1 .1)
-
-meets-front-meets-term-requires : (t : ℕ) → meets-front-lts.Need-meets-term-requires (
-  meets-term-reads.Asked,
-  meets-term-reads.Learnt,
-  width-reads.Asked,
-  width-reads.Learnt,
-  meets-front-below t,
-  meets-front.Post,
-  joined-reads.Asked,
-  joined-reads.Learnt,
-) (meets-front-at t) meets-front.Post
-meets-front-meets-term-requires t c κs = (c .before .before .before .pre .1 .0, front-term (c .before .before .before .pre .1 .1) (c .if1 .taken))
-
-meets-front-width-requires : (t : ℕ) → meets-front-lts.Need-width-requires (
-  meets-term-reads.Asked,
-  meets-term-reads.Learnt,
-  width-reads.Asked,
-  width-reads.Learnt,
-  meets-front-below t,
-  meets-front.Post,
-  joined-reads.Asked,
-  joined-reads.Learnt,
-) (meets-front-at t) meets-front.Post
-meets-front-width-requires t c κs = search needs
-
-meets-front-returns : (t : ℕ) → meets-front-lts.Need-returns (
-  meets-term-reads.Asked,
-  meets-term-reads.Learnt,
-  width-reads.Asked,
-  width-reads.Learnt,
-  meets-front-below t,
-  meets-front.Post,
-  joined-reads.Asked,
-  joined-reads.Learnt,
-) (meets-front-at t) meets-front.Post
-meets-front-returns t c = tests-term _ _ _ _ _ (c .before .before .if1 .taken) (c .before .meets-term .ensures) (c .width .ensures)
-
-meets-front-sub-meets-front : (t : ℕ) → meets-front-lts.Need-sub-meets-front (
-  meets-term-reads.Asked,
-  meets-term-reads.Learnt,
-  width-reads.Asked,
-  width-reads.Learnt,
-  meets-front-below t,
-  meets-front.Post,
-  joined-reads.Asked,
-  joined-reads.Learnt,
-) (meets-front-at t) meets-front.Post
-meets-front-sub-meets-front t c = front-some (c .before .before .before .pre .1 .1)
-
-meets-front-part-meets-front-start : (t : ℕ) → meets-front-lts.Need-part-meets-front-start (
-  meets-term-reads.Asked,
-  meets-term-reads.Learnt,
-  width-reads.Asked,
-  width-reads.Learnt,
-  meets-front-below t,
-  meets-front.Post,
-  joined-reads.Asked,
-  joined-reads.Learnt,
-) (meets-front-at t) meets-front.Post
-meets-front-part-meets-front-start t c = front-some (c .before .before .before .pre .1 .1)
-
-meets-front-part-meets-front-end : (t : ℕ) → meets-front-lts.Need-part-meets-front-end (
-  meets-term-reads.Asked,
-  meets-term-reads.Learnt,
-  width-reads.Asked,
-  width-reads.Learnt,
-  meets-front-below t,
-  meets-front.Post,
-  joined-reads.Asked,
-  joined-reads.Learnt,
-) (meets-front-at t) meets-front.Post
-meets-front-part-meets-front-end t c = search needs
-
-meets-front-meets-front-requires : (t : ℕ) → meets-front-lts.Need-meets-front-requires (
-  meets-term-reads.Asked,
-  meets-term-reads.Learnt,
-  width-reads.Asked,
-  width-reads.Learnt,
-  meets-front-below t,
-  meets-front.Post,
-  joined-reads.Asked,
-  joined-reads.Learnt,
-) (meets-front-at t) meets-front.Post
-meets-front-meets-front-requires t c κs =
-    let o = front-operator (c .before .before .before .before .pre .1 .1) (omega arith) in
-    (omega (arith, from-length (c .before .before .before .before .args .rest .now) 1, front-some (c .before .before .before .before .pre .1 .1), c .before .before .before .before .pre .0), (c .before .before .before .before .pre .1 .0, o .left))
-
-meets-front-add-mid : (t : ℕ) → meets-front-lts.Need-add-mid (
-  meets-term-reads.Asked,
-  meets-term-reads.Learnt,
-  width-reads.Asked,
-  width-reads.Learnt,
-  meets-front-below t,
-  meets-front.Post,
-  joined-reads.Asked,
-  joined-reads.Learnt,
-) (meets-front-at t) meets-front.Post
-meets-front-add-mid t c =
-    let o = front-operator (c .before .before .before .before .before .before .pre .1 .1) (omega arith) in
-    let q = c .before .meets-front .ensures (o .a) _ (o .left-is) .0 in
-    omega (arith, o .long, c .before .before .before .before .before .before .good)
-
-meets-front-sub-meets-front-2 : (t : ℕ) → meets-front-lts.Need-sub-meets-front-2 (
-  meets-term-reads.Asked,
-  meets-term-reads.Learnt,
-  width-reads.Asked,
-  width-reads.Learnt,
-  meets-front-below t,
-  meets-front.Post,
-  joined-reads.Asked,
-  joined-reads.Learnt,
-) (meets-front-at t) meets-front.Post
-meets-front-sub-meets-front-2 t c =
-    let o = front-operator (c .before .before .before .before .before .before .pre .1 .1) (omega arith) in
-    let q = c .before .meets-front .ensures (o .a) _ (o .left-is) .0 in
-    omega (arith, o .long)
-
-meets-front-part-meets-front-start-2 : (t : ℕ) → meets-front-lts.Need-part-meets-front-start-2 (
-  meets-term-reads.Asked,
-  meets-term-reads.Learnt,
-  width-reads.Asked,
-  width-reads.Learnt,
-  meets-front-below t,
-  meets-front.Post,
-  joined-reads.Asked,
-  joined-reads.Learnt,
-) (meets-front-at t) meets-front.Post
-meets-front-part-meets-front-start-2 t c =
-    let o = front-operator (c .before .before .before .before .before .before .pre .1 .1) (omega arith) in
-    let q = c .before .meets-front .ensures (o .a) _ (o .left-is) .0 in
-    omega (arith, o .long)
-
-meets-front-part-meets-front-end-2 : (t : ℕ) → meets-front-lts.Need-part-meets-front-end-2 (
-  meets-term-reads.Asked,
-  meets-term-reads.Learnt,
-  width-reads.Asked,
-  width-reads.Learnt,
-  meets-front-below t,
-  meets-front.Post,
-  joined-reads.Asked,
-  joined-reads.Learnt,
-) (meets-front-at t) meets-front.Post
-meets-front-part-meets-front-end-2 t c = search needs
-
-meets-front-meets-front-requires-2 : (t : ℕ) → meets-front-lts.Need-meets-front-requires-2 (
-  meets-term-reads.Asked,
-  meets-term-reads.Learnt,
-  width-reads.Asked,
-  width-reads.Learnt,
-  meets-front-below t,
-  meets-front.Post,
-  joined-reads.Asked,
-  joined-reads.Learnt,
-) (meets-front-at t) meets-front.Post
-meets-front-meets-front-requires-2 t c κs =
-    let o = front-operator (c .before .before .before .before .before .before .before .pre .1 .1) (omega arith) in
-    let q = c .before .before .meets-front .ensures (o .a) _ (o .left-is) .0 in
-    (omega (arith, from-length (c .before .before .before .before .before .before .before .args .rest .now) (1 + c .before .before .meets-front .result .used), front-some (c .before .before .before .before .before .before .before .pre .1 .1), c .before .before .before .before .before .before .before .pre .0), (c .before .before .before .before .before .before .before .pre .1 .0, subst (λ (k : ℕ). Front (c .before .before .before .before .before .before .before .args .t .n) (from (c .before .before .before .before .before .before .before .args .rest .now) (1 + k))) (sym q) (o .right)))
-
-meets-front-joined-requires : (t : ℕ) → meets-front-lts.Need-joined-requires (
-  meets-term-reads.Asked,
-  meets-term-reads.Learnt,
-  width-reads.Asked,
-  width-reads.Learnt,
-  meets-front-below t,
-  meets-front.Post,
-  joined-reads.Asked,
-  joined-reads.Learnt,
-) (meets-front-at t) meets-front.Post
-meets-front-joined-requires t c κs = search needs
-
-meets-front-add-t15 : (t : ℕ) → meets-front-lts.Need-add-t15 (
-  meets-term-reads.Asked,
-  meets-term-reads.Learnt,
-  width-reads.Asked,
-  width-reads.Learnt,
-  meets-front-below t,
-  meets-front.Post,
-  joined-reads.Asked,
-  joined-reads.Learnt,
-) (meets-front-at t) meets-front.Post
-meets-front-add-t15 t c =
-    let o = front-operator (c .before .before .before .before .before .before .before .before .before .before .pre .1 .1) (omega arith) in
-    let q = c .before .before .before .before .before .meets-front .ensures (o .a) _ (o .left-is) .0 in
-    let r = c .before .before .meets-front2 .ensures (o .b) _ (subst (λ (k : ℕ). from (c .before .before .before .before .before .before .before .before .before .before .args .rest .now) (1 + k) ≡ bytes (o .b) ++ o .tail) (sym q) (o .right-is)) .0 in
-    omega (arith, o .long, c .before .before .before .before .before .before .before .before .before .before .good)
-
-meets-front-returns-2 : (t : ℕ) → meets-front-lts.Need-returns-2 (
-  meets-term-reads.Asked,
-  meets-term-reads.Learnt,
-  width-reads.Asked,
-  width-reads.Learnt,
-  meets-front-below t,
-  meets-front.Post,
-  joined-reads.Asked,
-  joined-reads.Learnt,
-) (meets-front-at t) meets-front.Post
-meets-front-returns-2 t c =
-    tests-operator _ _ _ _ _ _ _ (c .before .before .before .before .before .meets-front .ensures) (c .before .before .meets-front2 .ensures) _ (omega arith) (c .before .joined .ensures)
-
-pub +meets-front-spec : {M : Type 1} → statement M
-+meets-front-spec = close μ-meets-front λ t. meets-front-lts.spec (
+-- what its calls ask and tell, its own on fewer bytes among them
+abbrev claims : ℕ → meets-front-lts.Claims
+claims t = (
   meets-term-reads.Asked,
   meets-term-reads.Learnt,
   width-reads.Asked,
@@ -253,6 +43,76 @@ pub +meets-front-spec : {M : Type 1} → statement M
   joined-reads.Asked,
   joined-reads.Learnt,
 )
+
+meets-front-shared-slice-read-code : (t : ℕ) → meets-front-lts.Need-shared-slice-read-code (claims t) (meets-front-at t) meets-front.Post
+meets-front-shared-slice-read-code t c = front-some (c .before .before .pre .1 .1)
+
+meets-front-meets-term-requires : (t : ℕ) → meets-front-lts.Need-meets-term-requires (claims t) (meets-front-at t) meets-front.Post
+meets-front-meets-term-requires t c κs = (c .before .before .before .pre .1 .0, front-term (c .before .before .before .pre .1 .1) (c .if1 .taken))
+
+meets-front-width-requires : (t : ℕ) → meets-front-lts.Need-width-requires (claims t) (meets-front-at t) meets-front.Post
+meets-front-width-requires t c κs = search needs
+
+meets-front-returns : (t : ℕ) → meets-front-lts.Need-returns (claims t) (meets-front-at t) meets-front.Post
+meets-front-returns t c = tests-term _ _ _ _ _ (c .before .before .if1 .taken) (c .before .meets-term .ensures) (c .width .ensures)
+
+meets-front-sub-meets-front : (t : ℕ) → meets-front-lts.Need-sub-meets-front (claims t) (meets-front-at t) meets-front.Post
+meets-front-sub-meets-front t c = front-some (c .before .before .before .pre .1 .1)
+
+meets-front-part-meets-front-start : (t : ℕ) → meets-front-lts.Need-part-meets-front-start (claims t) (meets-front-at t) meets-front.Post
+meets-front-part-meets-front-start t c = front-some (c .before .before .before .pre .1 .1)
+
+meets-front-part-meets-front-end : (t : ℕ) → meets-front-lts.Need-part-meets-front-end (claims t) (meets-front-at t) meets-front.Post
+meets-front-part-meets-front-end t c = search needs
+
+meets-front-meets-front-requires : (t : ℕ) → meets-front-lts.Need-meets-front-requires (claims t) (meets-front-at t) meets-front.Post
+meets-front-meets-front-requires t c κs =
+    let o = front-operator (c .before .before .before .before .pre .1 .1) (omega arith) in
+    (omega (arith, from-length (c .before .before .before .before .args .rest .now) 1, front-some (c .before .before .before .before .pre .1 .1), c .before .before .before .before .pre .0), (c .before .before .before .before .pre .1 .0, o .left))
+
+meets-front-add-mid : (t : ℕ) → meets-front-lts.Need-add-mid (claims t) (meets-front-at t) meets-front.Post
+meets-front-add-mid t c =
+    let o = front-operator (c .before .before .before .before .before .before .pre .1 .1) (omega arith) in
+    let q = c .before .meets-front .ensures (o .a) _ (o .left-is) .0 in
+    omega (arith, o .long, c .before .before .before .before .before .before .good)
+
+meets-front-sub-meets-front-2 : (t : ℕ) → meets-front-lts.Need-sub-meets-front-2 (claims t) (meets-front-at t) meets-front.Post
+meets-front-sub-meets-front-2 t c =
+    let o = front-operator (c .before .before .before .before .before .before .pre .1 .1) (omega arith) in
+    let q = c .before .meets-front .ensures (o .a) _ (o .left-is) .0 in
+    omega (arith, o .long)
+
+meets-front-part-meets-front-start-2 : (t : ℕ) → meets-front-lts.Need-part-meets-front-start-2 (claims t) (meets-front-at t) meets-front.Post
+meets-front-part-meets-front-start-2 t c =
+    let o = front-operator (c .before .before .before .before .before .before .pre .1 .1) (omega arith) in
+    let q = c .before .meets-front .ensures (o .a) _ (o .left-is) .0 in
+    omega (arith, o .long)
+
+meets-front-part-meets-front-end-2 : (t : ℕ) → meets-front-lts.Need-part-meets-front-end-2 (claims t) (meets-front-at t) meets-front.Post
+meets-front-part-meets-front-end-2 t c = search needs
+
+meets-front-meets-front-requires-2 : (t : ℕ) → meets-front-lts.Need-meets-front-requires-2 (claims t) (meets-front-at t) meets-front.Post
+meets-front-meets-front-requires-2 t c κs =
+    let o = front-operator (c .before .before .before .before .before .before .before .pre .1 .1) (omega arith) in
+    let q = c .before .before .meets-front .ensures (o .a) _ (o .left-is) .0 in
+    (omega (arith, from-length (c .before .before .before .before .before .before .before .args .rest .now) (1 + c .before .before .meets-front .result .used), front-some (c .before .before .before .before .before .before .before .pre .1 .1), c .before .before .before .before .before .before .before .pre .0), (c .before .before .before .before .before .before .before .pre .1 .0, subst (λ (k : ℕ). Front (c .before .before .before .before .before .before .before .args .t .n) (from (c .before .before .before .before .before .before .before .args .rest .now) (1 + k))) (sym q) (o .right)))
+
+meets-front-joined-requires : (t : ℕ) → meets-front-lts.Need-joined-requires (claims t) (meets-front-at t) meets-front.Post
+meets-front-joined-requires t c κs = search needs
+
+meets-front-add-t15 : (t : ℕ) → meets-front-lts.Need-add-t15 (claims t) (meets-front-at t) meets-front.Post
+meets-front-add-t15 t c =
+    let o = front-operator (c .before .before .before .before .before .before .before .before .before .before .pre .1 .1) (omega arith) in
+    let q = c .before .before .before .before .before .meets-front .ensures (o .a) _ (o .left-is) .0 in
+    let r = c .before .before .meets-front2 .ensures (o .b) _ (subst (λ (k : ℕ). from (c .before .before .before .before .before .before .before .before .before .before .args .rest .now) (1 + k) ≡ bytes (o .b) ++ o .tail) (sym q) (o .right-is)) .0 in
+    omega (arith, o .long, c .before .before .before .before .before .before .before .before .before .before .good)
+
+meets-front-returns-2 : (t : ℕ) → meets-front-lts.Need-returns-2 (claims t) (meets-front-at t) meets-front.Post
+meets-front-returns-2 t c =
+    tests-operator _ _ _ _ _ _ _ (c .before .before .before .before .before .meets-front .ensures) (c .before .before .meets-front2 .ensures) _ (omega arith) (c .before .joined .ensures)
+
+pub +meets-front-spec : {M : Type 1} → statement M
++meets-front-spec = close μ-meets-front λ t. meets-front-lts.spec (claims t)
     (meets-front-at t)
     meets-front.Post
     (meets-front-shared-slice-read-code t)
