@@ -13,7 +13,7 @@ use Rattle.tree.specs.declared.Tree.{Tree}
 use Rattle.expression.specs.declared.Kind.{Kind}
 use Rattle.expression.specs.Bytes.{longest, Right}
 use Rattle.policy.specs.State.{mostRoles, mostFiles}
-use Rattle.policy.specs.Parts.{one-depth}
+use Rattle.tree.specs.Laws.{one-depth}
 use Rattle.image.specs.declared.Met.{Met}
 use Rattle.image.specs.declared.Met.the-variants.{Read, Refused}
 use Rattle.image.specs.Image.{each}

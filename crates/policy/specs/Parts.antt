@@ -5,8 +5,6 @@ use Prim.Native.Nat.{ℕ, _/_, _%_, _<_}
 use native.Mathlib.Decide.{decLt, ℕ-discrete}
 use native.Mathlib.Omega.{arith}
 use borrow.Author.Tests.{eq-eqb, ne-eqb}
-use Rattle.tree.specs.declared.Tree.{Tree}
-use Rattle.tree.specs.Tree.{IsDepth}
 use Rattle.expression.specs.declared.Kind.{Kind}
 use Rattle.expression.specs.declared.Kind.the-variants.{Privilege, Protection}
 use Rattle.policy.specs.declared.Role.{Role}
@@ -14,11 +12,6 @@ use Rattle.policy.specs.declared.File.{File}
 use Rattle.policy.specs.State.{rolePlaces, filePlaces, vPlusPlace, vMinusPlace, t1Place, ePlace, t2Place, gPlace}
 use Rattle.policy.specs.WellFormed.{PartInOrder, RoleInOrder, FileInOrder}
 use Rattle.policy.specs.Fine.{kindIf, kindAt}
-
--- a tree has one depth
-pub one-depth : {t : Tree} {d e : ℕ} → IsDepth t d → IsDepth t e → d ≡ e
-one-depth {t} {d} {e} p q =
-    omega (arith, q .largest (p .deepest .0) d (p .deepest .1) (p .deepest .2), p .largest (q .deepest .0) e (q .deepest .1) (q .deepest .2))
 
 -- T1 and T2 stand at a file's even places, E and G at its odd ones
 pub even-kind : (k : ℕ) → k % 2 ≡ 0 → kindAt true k ≡ Protection

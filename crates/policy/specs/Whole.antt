@@ -9,6 +9,7 @@ use lib.Dec.{ltb}
 use lib.ListN.{length, getD, set, length-set, List·getD-eq-default}
 use lib.Seq.{getD-set-same, getD-set-other}
 use Rattle.tree.specs.Tree.{IsDepth}
+use Rattle.tree.specs.Laws.{one-depth}
 use Rattle.expression.specs.declared.Kind.{Kind}
 use Rattle.policy.specs.declared.Hold.the-variants.{Free, By}
 use Rattle.policy.specs.declared.Slot.{Slot}
@@ -16,7 +17,7 @@ use Rattle.policy.specs.declared.State.{State}
 use Rattle.policy.specs.State.{slotCount, freeSlot, holdOf}
 use Rattle.policy.specs.WellFormed.{HasPlaces, PartInOrder, ZeroShelf, WellFormed}
 use Rattle.policy.specs.Fine.{kindAt, PlaceFine, ShelfFine, Shelving, OneIs, AllAre, StateFine}
-use Rattle.policy.specs.Parts.{one-depth, role-by-place, role-by-name, file-by-place, file-by-name}
+use Rattle.policy.specs.Parts.{role-by-place, role-by-name, file-by-place, file-by-name}
 
 -- a free slot holds no role
 pub free-held : {r : ℕ} → Free ≡ By r → ⊥
