@@ -406,16 +406,16 @@ fn slot_effect(seen: Examined, answer: Answer, slot: usize, hold: Hold) -> Effec
 }
 
 // With a grant, the file with both stored in its row of that mode, from that part on and two parts on: T1 with T2, or E with G. Else the file as it is.
-fn store_effect(seen: Examined, answer: Answer, mode: u8, part: usize, x: &[u8], y: &[u8]) -> Effect
-    requires { ⌜ (part < 2) × (Granted answer → (mode < modeCount) × (length (now x) ≤ longest) × (length (now y) ≤ longest)) ⌝ }
-    ensures { λ r. ⌜ StoredIs seen answer (filePlace mode part) (now (x .entry)) (now (y .entry)) r ⌝ }
+fn store_effect(seen: Examined, judged: Answer, mode: u8, part: usize, x: &[u8], y: &[u8]) -> Effect
+    requires { ⌜ (part < 2) × (Granted judged → (mode < modeCount) × (length (now x) ≤ longest) × (length (now y) ≤ longest)) ⌝ }
+    ensures { λ r. ⌜ StoredIs seen judged (filePlace mode part) (now (x .entry)) (now (y .entry)) r ⌝ }
 {
     let old = seen.file;
-    if answer.granted() {
+    if judged.granted() {
         let k = policy::file_place(mode as usize, part);
-        return file_effect(seen, answer, old.put_pair(k, x, y));
+        return file_effect(seen, judged, old.put_pair(k, x, y));
     }
-    file_effect(seen, answer, old)
+    file_effect(seen, judged, old)
 }
 
 // begin(slot, role): a free slot is to hold the role asked for.

@@ -26,7 +26,7 @@ returns c =
     let a = c .before .before .before .before .before .before .before .before .args in
     let made = c .before .put-pair .ensures ∙ ap (λ (k : ℕ). putPair (a .seen .file) k (a .x .now) (a .y .now)) (c .before .before .file-place .ensures) in
     record {
-      granted = λ g. c .file-effect .ensures ∙ ap (effectOf (a .answer) (a .seen .slots) (a .seen .at)) made;
+      granted = λ g. c .file-effect .ensures ∙ ap (effectOf (a .judged) (a .seen .slots) (a .seen .at)) made;
       refused = λ n. absurd (n (c .before .before .before .before .granted .ensures .0 (c .before .before .before .if1 .taken)));
     }
 
