@@ -4,3 +4,4 @@ pub mod Effects
 pub mod Lists
 pub mod Laws
 pub mod Parts
+pub mod Small

@@ -11,3 +11,4 @@ pub mod OnePolicy
 pub mod Takes
 pub mod Whole
 pub mod Laws
+pub mod Inside
