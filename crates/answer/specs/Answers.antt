@@ -39,3 +39,13 @@ Decides (c ∷ cs) grants a =
 pub record Leaves {S : Type 0} (a : Answer) (made : S → Type 0) (before after : S) : Type 0 where
   pub on-grant : Granted a → made after
   pub on-refusal : (Granted a → ⊥) → after ≡ before
+
+-- every condition of the list holds
+abbrev pub AllHold : List Condition → Type 0
+AllHold [] = Unit {0}
+AllHold (c ∷ cs) = c .holds × AllHold cs
+
+-- the first that does not hold has this number, and names this place
+abbrev pub FirstFails : List Condition → ℕ → ℕ → Type 0
+FirstFails [] n k = ⊥
+FirstFails (c ∷ cs) n k = ((c .holds → ⊥) × (c .number ≡ n) × c .names k) ⊎ (c .holds × FirstFails cs n k)

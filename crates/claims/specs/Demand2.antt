@@ -5,16 +5,15 @@ use mathlib.Core.List.{List}
 use mathlib.Core.Logic.{_↔_}
 use Prim.Native.Nat.{ℕ}
 use Rattle.answer.specs.declared.Answer.{Answer}
-use Rattle.answer.specs.Answers.{Condition, Decides, Granted, Is}
+use Rattle.answer.specs.Answers.{Condition, Decides, Granted, Is, AllHold, FirstFails}
 use Rattle.answer.specs.Laws.{OnePlaceEach}
 use Rattle.policy.specs.declared.Hold.the-variants.{Free, By}
 use Rattle.policy.specs.declared.State.{State}
 use Rattle.policy.specs.State.{withHold, withT1T2, withEG}
 use Rattle.gate.specs.declared.Outcome.{Outcome}
 use Rattle.gate.specs.Requests.{beginConditions, endConditions, askConditions, changeConditions, bypassConditions, Does, Begins, Ends, Asks, Changes, Bypasses}
-use Rattle.gate.specs.Lists.{AllHold, refuses}
+use Rattle.answer.specs.Lists.{refuses, granted-exactly, refused-exactly}
 use Rattle.gate.specs.Laws.{begin-places, end-places, ask-places, change-places, bypass-places}
-use Rattle.claims.specs.Exactly.{FirstFails, granted-exactly, refused-exactly}
 
 -- granted exactly when every condition holds; refused with that number at that place exactly when the first that does not hold has them
 pub record Exactly (cs : List Condition) (a : Answer) : Type 0 where

@@ -9,7 +9,7 @@ use Rattle.policy.specs.declared.State.{State}
 use Rattle.policy.specs.State.{freshState, holdOf}
 use Rattle.policy.specs.Reads.{hold-here}
 use Rattle.gate.specs.Requests.{beginConditions}
-use Rattle.gate.specs.Lists.{granted-all, all-granted}
+use Rattle.answer.specs.Lists.{granted-all, all-granted}
 use Rattle.claims.specs.Trace.{Request, begin, Step}
 use Rattle.claims.specs.TraceLaws.{free-by}
 use Rattle.claims.specs.Sample.{sample, sample-well-formed, sample-free, sample-counts}

@@ -6,7 +6,6 @@ pub mod Examples
 pub mod Empty
 pub mod Starred
 pub mod Sound
-pub mod Exactly
 pub mod TraceLaws
 pub mod MoveLaws
 pub mod StarredLaws

@@ -13,7 +13,7 @@ use Rattle.policy.specs.declared.State.{State}
 use Rattle.policy.specs.State.{read, write, eOf, gOf, m1Of, m2Of, rolePart, m1Place, m2Place, offRole}
 use Rattle.gate.specs.Rules.{Mediates}
 use Rattle.gate.specs.Requests.{Session, Asks, askConditions}
-use Rattle.gate.specs.Lists.{granted-all}
+use Rattle.answer.specs.Lists.{granted-all}
 use Rattle.gate.specs.Laws.{one-role}
 use Rattle.claims.specs.Trace.{Request, ask, Step, Event, Run, next, Quiet, Grants, Move, ReachedBy, itself, moved, PassesIndelible}
 use Rattle.claims.specs.TraceLaws.{Kept, kept-then, run-keeps, run-holds, run-split, quiet-split}

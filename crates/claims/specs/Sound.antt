@@ -11,7 +11,7 @@ use lib.Dec.{eqb}
 use Rattle.answer.specs.declared.Answer.{Answer}
 use Rattle.answer.specs.Numbers.{illFormed}
 use Rattle.answer.specs.Answers.{Condition, Decides, Granted}
-use Rattle.securon.specs.Iff.{and-iff, iff-refl}
+use Rattle.logic.specs.Iff.{and-iff, iff-refl}
 use Rattle.policy.specs.declared.State.{State}
 use Rattle.policy.specs.State.{freshState}
 use Rattle.policy.specs.WellFormed.{WellFormed}

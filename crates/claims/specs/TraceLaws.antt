@@ -12,7 +12,7 @@ use Rattle.policy.specs.declared.State.{State}
 use Rattle.policy.specs.State.{modeCount, holdOf, eOf, gOf, withHold, withT1T2}
 use Rattle.policy.specs.Reads.{hold-there, change-keeps}
 use Rattle.gate.specs.Requests.{beginConditions, endConditions, changeConditions}
-use Rattle.gate.specs.Lists.{granted-all}
+use Rattle.answer.specs.Lists.{granted-all}
 use Rattle.claims.specs.Trace.{Request, load, begin, end, ask, change, bypass, Step, Event, Run, none, next, Resets, Quiet, NoEnd}
 
 -- the tree, the roles and every indelible part of t are those of s

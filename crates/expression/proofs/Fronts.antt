@@ -8,7 +8,7 @@ use native.Mathlib.Omega.{arith}
 use lib.ListN.{length, getD, drop, length-append}
 use lib.Seq.{drop-append-seam, drop-drop}
 use Rattle.securon.specs.Sets.{Set}
-use Rattle.securon.specs.Iff.{and-iff, or-iff, iff-trans, iff-sym}
+use Rattle.logic.specs.Iff.{and-iff, or-iff, iff-trans, iff-sym}
 use Rattle.tree.specs.declared.Tree.{Tree}
 use Rattle.expression.specs.Expression.{Term, one, range, Expr, term, _AND_, _OR_, Meets}
 use Rattle.expression.specs.declared.Kind.{Kind}

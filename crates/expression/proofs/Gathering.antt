@@ -9,7 +9,7 @@ use borrow.Author.Needs.{zero≤}
 use lib.ListN.{length, getD, drop, length-drop, length-append}
 use lib.Seq.{drop-drop, drop-append-seam}
 use Rattle.securon.specs.Sets.{Set, empty, _≐_, marked}
-use Rattle.securon.specs.Iff.{iff-trans}
+use Rattle.logic.specs.Iff.{iff-trans}
 use Rattle.tree.specs.declared.Tree.{Tree}
 use Rattle.expression.specs.declared.Kind.the-variants.{Privilege}
 use Rattle.expression.specs.Expression.{Term, one, range, Expr, term, _AND_, _OR_, privilegeSET}

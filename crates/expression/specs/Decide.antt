@@ -11,7 +11,7 @@ use borrow.Author.Tests.{eqb-true, eq-eqb, ne-eqb, leb-true, le-leb, ltb-true, l
 use lib.Dec.{eqb, leb, ltb}
 use lib.ListN.{getD}
 use Rattle.securon.specs.Sets.{Marks, on}
-use Rattle.securon.specs.Iff.{and-iff, or-iff, iff-refl, iff-sym, iff-trans}
+use Rattle.logic.specs.Iff.{and-iff, or-iff, iff-refl, iff-sym, iff-trans}
 use Rattle.tree.specs.declared.Tree.{Tree}
 use Rattle.tree.specs.Tree.{Reaches, here, up, HasLevel, root, child, IsTree}
 use Rattle.tree.specs.Laws.{reaches-up, reaches-root, one-level}

@@ -7,7 +7,7 @@ use native.Mathlib.Omega.{arith}
 use lib.ListN.{length}
 use Rattle.answer.specs.Laws.{AtMostOne, one-fault, no-fault}
 use Rattle.securon.specs.Sets.{Set, _≐_}
-use Rattle.securon.specs.Iff.{iff-trans, iff-sym}
+use Rattle.logic.specs.Iff.{iff-trans, iff-sym}
 use Rattle.tree.specs.declared.Tree.{Tree}
 use Rattle.tree.specs.Laws.{one-depth}
 use Rattle.expression.specs.declared.Kind.{Kind}

@@ -9,7 +9,7 @@ use borrow.Author.Needs.{zero≤}
 use lib.ListN.{length, take}
 use Rattle.answer.specs.Faults.{Begins, FaultAt}
 use Rattle.answer.specs.Laws.{fault-after, fault-here}
-use Rattle.securon.specs.Iff.{iff-trans}
+use Rattle.logic.specs.Iff.{iff-trans}
 use Rattle.expression.specs.declared.Kind.{Kind}
 use Rattle.expression.specs.Expression.{one, range, Expr, term, _AND_, _OR_}
 use Rattle.expression.specs.Bytes.{bytes, MayOR, Fits, Written, Right}

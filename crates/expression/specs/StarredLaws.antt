@@ -9,7 +9,7 @@ use borrow.Author.Tests.{eqb-true, ltb-true}
 use lib.Dec.{eqb, ltb, lit<, lit≤}
 use lib.ListN.{getD}
 use Rattle.securon.specs.Sets.{Set, _⊆_, _≐_, Apart, Marks, on}
-use Rattle.securon.specs.Iff.{and-iff, or-iff, iff-refl, iff-sym, iff-trans}
+use Rattle.logic.specs.Iff.{and-iff, or-iff, iff-refl, iff-sym, iff-trans}
 use Rattle.tree.specs.Tree.{IsTree}
 use Rattle.expression.specs.Expression.{Expr, privilegeSET, Meets}
 use Rattle.expression.specs.Bytes.{bytes, SET, MeetsT1, MeetsT2}

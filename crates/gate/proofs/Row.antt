@@ -7,7 +7,7 @@ use Prim.Native.Nat.{ℕ, _<_, _≤_, _%_}
 use native.Mathlib.Omega.{arith}
 use lib.ListN.{getD}
 use Rattle.securon.specs.Sets.{Set, _∪_, _⊆_, _≐_, Apart, marked}
-use Rattle.securon.specs.Iff.{and-iff, iff-trans}
+use Rattle.logic.specs.Iff.{and-iff, iff-trans}
 use Rattle.tree.specs.declared.Tree.{Tree}
 use Rattle.expression.specs.declared.Kind.{Kind}
 use Rattle.expression.specs.declared.Kind.the-variants.{Privilege}

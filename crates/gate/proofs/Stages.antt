@@ -10,8 +10,8 @@ use lib.ListN.{getD, set}
 use lib.Seq.{set-getD}
 use Rattle.answer.specs.declared.Answer.{Answer}
 use Rattle.answer.specs.Numbers.{done}
-use Rattle.answer.specs.Answers.{Condition, Is, Granted}
-use Rattle.securon.specs.Iff.{not-then-false}
+use Rattle.answer.specs.Answers.{Condition, Is, Granted, AllHold}
+use Rattle.logic.specs.Iff.{not-then-false}
 use Rattle.tree.specs.declared.Tree.{Tree}
 use Rattle.tree.specs.Laws.{one-depth}
 use Rattle.expression.specs.declared.Kind.{Kind}
@@ -31,7 +31,7 @@ use Rattle.policy.specs.Whole.{free-held}
 use Rattle.gate.specs.declared.Effect.{Effect}
 use Rattle.gate.specs.Requests.{Taken, Session, sessionConditions, Answers, Does}
 use Rattle.gate.specs.Effects.{effectOf, after, Tells}
-use Rattle.gate.specs.Lists.{AllHold, refuses, granted-all, refused-first, then-second}
+use Rattle.answer.specs.Lists.{refuses, granted-all, refused-first, then-second}
 use Rattle.gate.specs.Laws.{one-role}
 use Rattle.gate.specs.Parts.{AtHand, StoredIs}
 

@@ -6,7 +6,7 @@ use Prim.Native.Nat.{ℕ, _+_}
 use native.Mathlib.Decide.{ℕ-discrete}
 use Rattle.answer.specs.declared.Answer.{Answer}
 use Rattle.answer.specs.Numbers.{bypassLacks}
-use Rattle.answer.specs.Answers.{Condition, must, Granted}
+use Rattle.answer.specs.Answers.{Condition, must, Granted, AllHold}
 use Rattle.answer.specs.Laws.{AtMostOne, OnePlaceEach, said, one-answer, one-left}
 use Rattle.tree.specs.declared.Tree.{Tree}
 use Rattle.tree.specs.Laws.{one-depth}
@@ -23,7 +23,7 @@ use Rattle.policy.specs.Reads.{hold-here}
 use Rattle.gate.specs.declared.Outcome.{Outcome}
 use Rattle.gate.specs.Rules.{Covers}
 use Rattle.gate.specs.Requests.{Session, beginConditions, endConditions, rowConditions, askConditions, second, Added, inOrder, expressionConditions, changeConditions, bypassConditions, Does, Begins, Ends, Asks, Changes, Bypasses}
-use Rattle.gate.specs.Lists.{AllHold, refuses, granted-all}
+use Rattle.answer.specs.Lists.{refuses, granted-all}
 
 -- a session has one role
 pub one-role : (s : State) (slot : ℕ) {a b : ℕ} → holdOf s slot ≡ By a → holdOf s slot ≡ By b → a ≡ b

@@ -1,7 +1,6 @@
 pub mod Rules
 pub mod Requests
 pub mod Effects
-pub mod Lists
 pub mod Laws
 pub mod Parts
 pub mod Small

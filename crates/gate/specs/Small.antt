@@ -10,7 +10,7 @@ use lib.Dec.{ltb}
 use Rattle.answer.specs.declared.Answer.{Answer}
 use Rattle.answer.specs.Numbers.{bypassLacks}
 use Rattle.answer.specs.Answers.{Condition, must}
-use Rattle.securon.specs.Iff.{and-iff, iff-refl}
+use Rattle.logic.specs.Iff.{and-iff, iff-refl}
 use Rattle.tree.specs.declared.Tree.{Tree}
 use Rattle.expression.specs.declared.Kind.{Kind}
 use Rattle.expression.specs.declared.Kind.the-variants.{Privilege, Protection}

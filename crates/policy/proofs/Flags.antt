@@ -7,8 +7,8 @@ use native.Mathlib.Omega.{arith}
 use lib.Dec.{eqb}
 use borrow.Author.Count.{below-more}
 use borrow.Author.Tests.{eqb-true, eq-eqb}
-use Rattle.securon.specs.Iff.{and-iff, iff-trans}
-use Rattle.securon.specs.Every.{Flag}
+use Rattle.logic.specs.Iff.{and-iff, iff-trans}
+use Rattle.logic.specs.Every.{Flag}
 
 module _ {P : ℕ → Type 0} {k : ℕ} {z b : Bool} where
   pub flag-and : Flag P k z → (b ≡ true) ↔ P k → Flag P (k + 1) (z && b)

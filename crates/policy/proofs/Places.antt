@@ -7,7 +7,7 @@ use Prim.Native.Nat.{ℕ, _+_, _*_, _-_, _<_, _≤_}
 use native.Mathlib.Omega.{arith}
 use lib.ListN.{length, getD, take, drop}
 use Rattle.answer.specs.Laws.{no-fault}
-use Rattle.securon.specs.Iff.{and-iff, iff-trans}
+use Rattle.logic.specs.Iff.{and-iff, iff-trans}
 use Rattle.expression.specs.declared.Kind.{Kind}
 use Rattle.expression.specs.Bytes.{longest, Right, InOrder, WrongAt}
 use Rattle.policy.specs.State.{storedAt, roomPast}

@@ -6,8 +6,8 @@ use mathlib.Core.Logic.{_↔_}
 use Prim.Native.Nat.{ℕ}
 use lib.Dec.{ltb}
 use lib.ListN.{length, getD}
-use Rattle.securon.specs.Every.{Flag}
-use Rattle.securon.specs.Iff.{iff-trans}
+use Rattle.logic.specs.Every.{Flag}
+use Rattle.logic.specs.Iff.{iff-trans}
 use Rattle.policy.specs.Fine.{Shelving, OneIs, AllAre}
 use Rattle.policy.proofs.Flags.{flag-end}
 

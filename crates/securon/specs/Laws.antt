@@ -10,7 +10,7 @@ use native.Mathlib.Omega.{arith}
 use lib.ListN.{length, set, replicate, length-set}
 use lib.Seq.{getD-set-same, getD-set-other}
 use Rattle.securon.specs.Sets.{Set, only, _∪_, _≐_, marked}
-use Rattle.securon.specs.Iff.{iff-trans}
+use Rattle.logic.specs.Iff.{iff-trans}
 
 -- who is marked stands among the marks
 pub within : (l : List Bool) (u : ℕ) → marked l u → u < length l

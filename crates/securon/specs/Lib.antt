@@ -1,4 +1,2 @@
 pub mod Sets
-pub mod Iff
-pub mod Every
 pub mod Laws

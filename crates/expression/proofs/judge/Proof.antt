@@ -1,6 +1,6 @@
 -- `expression::judge` meets its contract: the check says whether the bytes are in order, and only then they are tested. Assumes nothing.
 use mathlib.Core.Path.{subst}
-use Rattle.securon.specs.Iff.{not-then-false}
+use Rattle.logic.specs.Iff.{not-then-false}
 use Rattle.expression.specs.Bytes.{Checks}
 use borrow.Author.Needs.{needs}
 use Rattle.expression.proofs.judge.Statement.{statement}

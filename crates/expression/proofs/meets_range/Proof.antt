@@ -7,7 +7,7 @@ use native.Mathlib.Omega.{arith}
 use borrow.Author.Needs.{needs}
 use borrow.Author.Count.{below-none, below-more}
 use Rattle.securon.specs.Sets.{marked}
-use Rattle.securon.specs.Iff.{iff-trans, not-then-false}
+use Rattle.logic.specs.Iff.{iff-trans, not-then-false}
 use Rattle.expression.specs.Expression.{Between}
 use Rattle.expression.proofs.Ranges.{ready-climbs, between-iff}
 use Rattle.expression.proofs.meets_range.Statement.{statement}

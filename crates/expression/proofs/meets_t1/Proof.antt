@@ -2,7 +2,7 @@
 use mathlib.Core.Path.{refl, ap}
 use mathlib.Core.Logic.{inl, inr, ⊎-elim}
 use lib.ListN.{length}
-use Rattle.securon.specs.Iff.{iff-trans}
+use Rattle.logic.specs.Iff.{iff-trans}
 use Rattle.expression.specs.Scan.{nil-of}
 use Rattle.expression.proofs.Fronts.{right-front, tests-bytes}
 use Rattle.expression.proofs.meets_t1.Statement.{statement}

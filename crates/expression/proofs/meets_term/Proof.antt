@@ -5,7 +5,7 @@ use mathlib.Core.Logic.{_↔_}
 use Prim.Native.Nat.{ℕ}
 use native.Mathlib.Omega.{arith}
 use Rattle.securon.specs.Sets.{marked}
-use Rattle.securon.specs.Iff.{iff-trans}
+use Rattle.logic.specs.Iff.{iff-trans}
 use Rattle.expression.specs.Expression.{Term, termSET}
 use Rattle.expression.proofs.Fronts.{is-one, is-range, term-named, term-long}
 use Rattle.expression.proofs.meets_term.Statement.{statement}

@@ -8,7 +8,7 @@ use borrow.Author.Needs.{needs}
 use borrow.Author.Tests.{not-true, not-false}
 use lib.ListN.{length}
 use Rattle.expression.specs.declared.Kind.{Kind}
-use Rattle.securon.specs.Iff.{not-then-false}
+use Rattle.logic.specs.Iff.{not-then-false}
 use Rattle.expression.specs.Bytes.{MayOR}
 use Rattle.expression.specs.Scan.{nil-of}
 use Rattle.expression.proofs.Scanning.{At, from-length, at-start, at-operator, at-term, at-stuck, at-over, at-whole, at-short, finds-stopped}

@@ -6,7 +6,7 @@ use native.Mathlib.Omega.{arith}
 use borrow.Author.Needs.{needs}
 use lib.ListN.{length}
 use Rattle.securon.specs.Sets.{securons}
-use Rattle.securon.specs.Iff.{iff-trans, not-then-false}
+use Rattle.logic.specs.Iff.{iff-trans, not-then-false}
 use Rattle.securon.specs.Laws.{Joined, joined-none, joined-skip, joined-mark, joined-all}
 use Rattle.expression.specs.Expression.{Between}
 use Rattle.expression.proofs.Ranges.{ready-climbs, between-iff}

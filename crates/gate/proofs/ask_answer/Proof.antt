@@ -2,14 +2,13 @@
 use mathlib.Core.Path.{refl}
 use mathlib.Core.List.{[], _∷_}
 use borrow.Author.Tests.{not-true, not-false}
-use Rattle.securon.specs.Iff.{not-then-false}
+use Rattle.logic.specs.Iff.{not-then-false}
 use Rattle.answer.specs.Numbers.{mediatingUnfit}
-use Rattle.answer.specs.Answers.{Condition, must}
+use Rattle.answer.specs.Answers.{Condition, must, AllHold}
 use Rattle.policy.specs.declared.State.{State}
 use Rattle.policy.specs.WellFormed.{Examines}
 use Rattle.gate.specs.Rules.{Mediates}
 use Rattle.gate.specs.Requests.{Session, rowConditions}
-use Rattle.gate.specs.Lists.{AllHold}
 use Rattle.gate.specs.Parts.{RoleMediates}
 use Rattle.gate.proofs.Stages.{at-hand, lacks, owns, shown, stands, last-refuses, last-grants}
 use borrow.Author.Needs.{needs}

@@ -3,7 +3,7 @@ use mathlib.Core.Path.{sym, _∙_}
 use mathlib.Core.Logic.{inl, inr}
 use native.Mathlib.Omega.{arith}
 use borrow.Author.Tests.{not-true, not-false}
-use Rattle.securon.specs.Iff.{not-then-false}
+use Rattle.logic.specs.Iff.{not-then-false}
 use Rattle.gate.proofs.Stages.{hold-seen}
 use borrow.Author.Needs.{needs}
 use Rattle.gate.proofs.begin_answer.Statement.{statement}

@@ -1,6 +1,6 @@
 -- `gate::begin_effect` meets its contract: a grant gives the slot its role, a refusal gives back what was seen. Assumes nothing.
 use mathlib.Core.Path.{refl}
-use Rattle.securon.specs.Iff.{not-then-false}
+use Rattle.logic.specs.Iff.{not-then-false}
 use Rattle.policy.specs.declared.Hold.the-variants.{By}
 use Rattle.gate.specs.Requests.{beginConditions}
 use Rattle.gate.proofs.Stages.{shown, after-kept, after-hold, tells-granted, tells-refused}

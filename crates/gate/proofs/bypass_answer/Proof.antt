@@ -2,15 +2,14 @@
 use mathlib.Core.Path.{refl}
 use mathlib.Core.List.{[], _∷_}
 use borrow.Author.Tests.{not-true, not-false}
-use Rattle.securon.specs.Iff.{not-then-false}
+use Rattle.logic.specs.Iff.{not-then-false}
 use Rattle.answer.specs.Numbers.{bypassLacks}
-use Rattle.answer.specs.Answers.{Condition, must}
+use Rattle.answer.specs.Answers.{Condition, must, AllHold}
 use Rattle.expression.specs.declared.Kind.the-variants.{Privilege}
 use Rattle.policy.specs.declared.State.{State}
 use Rattle.policy.specs.WellFormed.{Examines}
 use Rattle.gate.specs.Rules.{Covers}
 use Rattle.gate.specs.Requests.{Session, storeConditions}
-use Rattle.gate.specs.Lists.{AllHold}
 use Rattle.gate.specs.Parts.{RoleCovers}
 use Rattle.gate.proofs.Stages.{right-over, at-hand, lacks, owns, shown, stands, last-refuses, last-grants}
 use borrow.Author.Needs.{needs}

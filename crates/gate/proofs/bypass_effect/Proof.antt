@@ -1,10 +1,9 @@
 -- `gate::bypass_effect` meets its contract: its conditions decide, and what they grant is stored. Assumes nothing.
 use mathlib.Core.Path.{refl}
 use native.Mathlib.Omega.{arith}
-use Rattle.answer.specs.Answers.{Granted}
+use Rattle.answer.specs.Answers.{Granted, AllHold}
 use Rattle.policy.specs.State.{ePlace}
 use Rattle.gate.specs.Requests.{bypassConditions}
-use Rattle.gate.specs.Lists.{AllHold}
 use Rattle.gate.proofs.Stages.{shown, tells-stored}
 use borrow.Author.Needs.{needs}
 use Rattle.gate.proofs.bypass_effect.Statement.{statement}

@@ -1,10 +1,9 @@
 -- `gate::change_effect` meets its contract: its conditions decide, and what they grant is stored. Assumes nothing.
 use mathlib.Core.Path.{refl}
 use native.Mathlib.Omega.{arith}
-use Rattle.answer.specs.Answers.{Granted}
+use Rattle.answer.specs.Answers.{Granted, AllHold}
 use Rattle.policy.specs.State.{t1Place}
 use Rattle.gate.specs.Requests.{changeConditions}
-use Rattle.gate.specs.Lists.{AllHold}
 use Rattle.gate.proofs.Stages.{shown, tells-stored}
 use borrow.Author.Needs.{needs}
 use Rattle.gate.proofs.change_effect.Statement.{statement}

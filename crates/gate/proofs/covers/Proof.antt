@@ -1,7 +1,7 @@
 -- `gate::covers` meets its contract: the sets at hand have the members of those that are meant, and E and G are tested one after the other. Assumes nothing.
 use native.Mathlib.Omega.{arith}
 use borrow.Author.Tests.{not-true, not-false}
-use Rattle.securon.specs.Iff.{iff-trans, not-then-false}
+use Rattle.logic.specs.Iff.{iff-trans, not-then-false}
 use Rattle.gate.proofs.Row.{no-iff, same-altered}
 use borrow.Author.Needs.{needs}
 use Rattle.gate.proofs.covers.Statement.{statement}

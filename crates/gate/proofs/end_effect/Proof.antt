@@ -1,6 +1,6 @@
 -- `gate::end_effect` meets its contract: a grant frees the slot, a refusal gives back what was seen. Assumes nothing.
 use mathlib.Core.Path.{refl}
-use Rattle.securon.specs.Iff.{not-then-false}
+use Rattle.logic.specs.Iff.{not-then-false}
 use Rattle.policy.specs.declared.Hold.the-variants.{Free}
 use Rattle.gate.specs.Requests.{sessionConditions}
 use Rattle.gate.proofs.Stages.{shown, after-kept, after-hold, tells-granted, tells-refused}

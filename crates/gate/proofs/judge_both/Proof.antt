@@ -2,9 +2,9 @@
 use mathlib.Core.Path.{_≡_, refl}
 use mathlib.Core.List.{[], _∷_}
 use borrow.Author.Tests.{not-true, not-false}
-use Rattle.securon.specs.Iff.{not-then-false}
+use Rattle.logic.specs.Iff.{not-then-false}
 use Rattle.gate.specs.Requests.{second, inOrder}
-use Rattle.gate.specs.Lists.{granted-all, refused-first, then-second}
+use Rattle.answer.specs.Lists.{granted-all, refused-first, then-second}
 use borrow.Author.Needs.{needs}
 use Rattle.gate.proofs.judge_both.Statement.{statement}
 use Rattle.gate.proofs.judge_both.Tie as tie

@@ -1,6 +1,6 @@
 -- `gate::mediates` meets its contract: the sets at hand have the members of those that are meant. Assumes nothing.
 use native.Mathlib.Omega.{arith}
-use Rattle.securon.specs.Iff.{iff-trans}
+use Rattle.logic.specs.Iff.{iff-trans}
 use Rattle.gate.proofs.Row.{odd-part, other-fits, same-mediates}
 use borrow.Author.Needs.{needs}
 use Rattle.gate.proofs.mediates.Statement.{statement}

@@ -1,6 +1,6 @@
 -- `gate::minus_passes` meets its contract: the set at hand has V-'s members, and the two tests are the two facts. Assumes nothing.
 use native.Mathlib.Omega.{arith}
-use Rattle.securon.specs.Iff.{iff-trans, not-then-false}
+use Rattle.logic.specs.Iff.{iff-trans, not-then-false}
 use Rattle.gate.proofs.Row.{no-iff, same-t2, same-apart}
 use borrow.Author.Needs.{needs}
 use Rattle.gate.proofs.minus_passes.Statement.{statement}

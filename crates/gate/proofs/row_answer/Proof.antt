@@ -6,14 +6,13 @@ use Prim.Native.Nat.{_<_}
 use native.Mathlib.Omega.{arith}
 use borrow.Author.Tests.{not-true, not-false}
 use Rattle.answer.specs.Numbers.{noFile, noMode, rowNotPassed}
-use Rattle.answer.specs.Answers.{Condition, must}
-use Rattle.securon.specs.Iff.{not-then-false}
+use Rattle.answer.specs.Answers.{Condition, must, AllHold}
+use Rattle.logic.specs.Iff.{not-then-false}
 use Rattle.policy.specs.declared.State.{State}
 use Rattle.policy.specs.WellFormed.{Examines}
 use Rattle.policy.specs.State.{modeCount}
 use Rattle.gate.specs.Rules.{Passes}
 use Rattle.gate.specs.Requests.{Session, sessionConditions}
-use Rattle.gate.specs.Lists.{AllHold}
 use Rattle.gate.specs.Parts.{RolePasses}
 use Rattle.gate.proofs.Stages.{at-hand, lacks, owns, shown, stands}
 use borrow.Author.Needs.{needs}

@@ -1,6 +1,6 @@
 -- `gate::row_passes` meets its contract: the two senses are the four facts. Assumes nothing.
 use borrow.Author.Tests.{not-true, not-false}
-use Rattle.securon.specs.Iff.{iff-trans, not-then-false}
+use Rattle.logic.specs.Iff.{iff-trans, not-then-false}
 use Rattle.gate.proofs.Row.{no-iff}
 use borrow.Author.Needs.{needs}
 use Rattle.gate.proofs.row_passes.Statement.{statement}

@@ -2,7 +2,7 @@
 use mathlib.Core.Logic.{inl, inr}
 use native.Mathlib.Omega.{arith}
 use borrow.Author.Tests.{not-true, not-false}
-use Rattle.securon.specs.Iff.{not-then-false}
+use Rattle.logic.specs.Iff.{not-then-false}
 use Rattle.gate.proofs.Stages.{taken-seen, not-taken}
 use borrow.Author.Needs.{needs}
 use Rattle.gate.proofs.session_answer.Statement.{statement}

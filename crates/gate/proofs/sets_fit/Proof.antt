@@ -1,5 +1,5 @@
 -- `gate::sets_fit` meets its contract: each mode asks for its own two parts, or for nothing. Assumes nothing.
-use Rattle.securon.specs.Iff.{and-iff, iff-trans}
+use Rattle.logic.specs.Iff.{and-iff, iff-trans}
 use Rattle.gate.proofs.Row.{read-fits, write-fits, other-fits}
 use borrow.Author.Needs.{needs}
 use Rattle.gate.proofs.sets_fit.Statement.{statement}

@@ -2,12 +2,12 @@
 use mathlib.Core.Path.{refl}
 use native.Mathlib.Omega.{arith}
 use borrow.Author.Tests.{not-true, not-false}
-use Rattle.securon.specs.Iff.{not-then-false}
+use Rattle.logic.specs.Iff.{not-then-false}
 use Rattle.policy.specs.declared.State.{State}
 use Rattle.policy.specs.WellFormed.{Examines}
 use Rattle.policy.specs.State.{changeProtection}
 use Rattle.gate.specs.Requests.{rowConditions, expressionConditions}
-use Rattle.gate.specs.Lists.{AllHold}
+use Rattle.answer.specs.Answers.{AllHold}
 use Rattle.gate.proofs.Stages.{ready, shown, stands, then-next}
 use borrow.Author.Needs.{needs}
 use Rattle.gate.proofs.store_answer.Statement.{statement}

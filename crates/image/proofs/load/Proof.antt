@@ -1,6 +1,6 @@
 -- `image::load` meets its contract: only an image that is read is granted, and then its policy is there. Assumes nothing.
 use mathlib.Core.Path.{refl}
-use Rattle.securon.specs.Iff.{not-then-false}
+use Rattle.logic.specs.Iff.{not-then-false}
 use Rattle.image.specs.Answers.{granted-read}
 use borrow.Author.Needs.{needs}
 use Rattle.image.proofs.load.Statement.{statement}

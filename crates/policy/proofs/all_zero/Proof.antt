@@ -4,7 +4,7 @@ use Prim.Native.Nat.{ℕ, _≤_, _-_}
 use native.Mathlib.Omega.{arith}
 use borrow.Author.Needs.{needs}
 use lib.ListN.{length, getD, List·getD-eq-default}
-use Rattle.securon.specs.Every.{Flag, flag-none, flag-all}
+use Rattle.logic.specs.Every.{Flag, flag-none, flag-all}
 use Rattle.policy.proofs.Flags.{flag-and, zero-iff}
 use Rattle.policy.proofs.all_zero.Statement.{statement}
 use Rattle.policy.proofs.all_zero.Tie as tie

@@ -1,5 +1,5 @@
 -- `policy::file_zero` meets its contract: its lengths and its bytes are tested for zero. Assumes nothing.
-use Rattle.securon.specs.Iff.{and-iff, iff-trans}
+use Rattle.logic.specs.Iff.{and-iff, iff-trans}
 use borrow.Author.Needs.{needs}
 use Rattle.policy.proofs.file_zero.Statement.{statement}
 use Rattle.policy.proofs.file_zero.Tie as tie

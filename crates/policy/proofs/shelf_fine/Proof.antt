@@ -4,7 +4,7 @@ use Prim.Native.Nat.{ℕ, _≤_, _-_}
 use native.Mathlib.Omega.{arith}
 use borrow.Author.Needs.{needs}
 use lib.ListN.{length}
-use Rattle.securon.specs.Every.{Flag, flag-none}
+use Rattle.logic.specs.Every.{Flag, flag-none}
 use Rattle.policy.specs.Fine.{kindAt, PlaceFine}
 use Rattle.policy.proofs.Flags.{flag-and, flag-end}
 use Rattle.policy.proofs.shelf_fine.Statement.{statement}

@@ -4,8 +4,8 @@ use Prim.Native.Nat.{ℕ, _≤_, _-_}
 use native.Mathlib.Omega.{arith}
 use borrow.Author.Needs.{needs}
 use lib.ListN.{length, getD}
-use Rattle.securon.specs.Every.{Flag, flag-none}
-use Rattle.securon.specs.Iff.{iff-trans}
+use Rattle.logic.specs.Every.{Flag, flag-none}
+use Rattle.logic.specs.Iff.{iff-trans}
 use Rattle.policy.specs.State.{slotCount, freeSlot}
 use Rattle.policy.specs.Fine.{SlotIs}
 use Rattle.policy.proofs.Flags.{flag-and, flag-end}

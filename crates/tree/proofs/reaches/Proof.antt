@@ -5,7 +5,7 @@ use mathlib.Core.Logic.{_↔_}
 use Prim.Native.Nat.{ℕ, _<_}
 use native.Mathlib.Nat.{le-refl}
 use native.Mathlib.Omega.{arith}
-use Rattle.securon.specs.Iff.{iff-refl}
+use Rattle.logic.specs.Iff.{iff-refl}
 use Rattle.tree.specs.Tree.{Reaches, here, up, Climbs}
 use Rattle.tree.specs.Laws.{reaches-up, reaches-smaller, climbs-up}
 use Rattle.tree.proofs.reaches.Statement.{statement}

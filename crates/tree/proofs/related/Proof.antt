@@ -1,6 +1,6 @@
 -- `tree::related` meets its contract: of the two walks the one from the smaller number could only reach smaller ones. Assumes nothing.
 use native.Mathlib.Omega.{arith}
-use Rattle.securon.specs.Iff.{iff-trans}
+use Rattle.logic.specs.Iff.{iff-trans}
 use Rattle.tree.specs.Laws.{related-below, related-sym}
 use borrow.Author.Needs.{needs}
 use Rattle.tree.proofs.related.Statement.{statement}

@@ -5,7 +5,7 @@ use native.Mathlib.Omega.{arith}
 use borrow.Author.Needs.{needs}
 use lib.Dec.{ltb}
 use lib.ListN.{length, getD, length-map}
-use Rattle.securon.specs.Every.{Flag, flag-none}
+use Rattle.logic.specs.Every.{Flag, flag-none}
 use Rattle.policy.specs.State.{mostRoles, mostFiles, offRole, offFile, roleAt}
 use Rattle.policy.specs.Fine.{OneIs, roleShelves, fileShelves}
 use Rattle.policy.proofs.Flags.{flag-and}

@@ -7,7 +7,7 @@ use native.Mathlib.Omega.{arith}
 use borrow.Author.Needs.{needs}
 use lib.ListN.{length}
 use Rattle.securon.specs.Sets.{securons, marked}
-use Rattle.securon.specs.Every.{Flag, flag-none, flag-keep, flag-drop, flag-all}
+use Rattle.logic.specs.Every.{Flag, flag-none, flag-keep, flag-drop, flag-all}
 use Rattle.securon.specs.Laws.{beyond}
 use Rattle.securon.proofs.SecuronSet.apart.Statement.{statement}
 use Rattle.securon.proofs.SecuronSet.apart.Tie as tie

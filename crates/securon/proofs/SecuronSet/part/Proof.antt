@@ -8,7 +8,7 @@ use borrow.Author.Needs.{needs}
 use borrow.Author.Tests.{not-true, not-false}
 use lib.ListN.{length}
 use Rattle.securon.specs.Sets.{securons, marked}
-use Rattle.securon.specs.Every.{Flag, flag-none, flag-keep, flag-drop, flag-all}
+use Rattle.logic.specs.Every.{Flag, flag-none, flag-keep, flag-drop, flag-all}
 use Rattle.securon.specs.Laws.{beyond}
 use Rattle.securon.proofs.SecuronSet.part.Statement.{statement}
 use Rattle.securon.proofs.SecuronSet.part.Tie as tie
