@@ -17,10 +17,11 @@ use Rattle.expression.specs.Bytes.{longest, InOrder}
 use Rattle.policy.specs.declared.Role.{Role}
 use Rattle.policy.specs.declared.File.{File}
 use Rattle.policy.specs.declared.State.{State}
-use Rattle.policy.specs.State.{mostRoles, mostFiles, rolePlaces, roomPast, roleAt, fileAt, setNroles, setNfiles, withRole, putRole}
-use Rattle.policy.specs.WellFormed.{PartInOrder, RoleInOrder, FileInOrder, AllZero, ZeroShelf, WellFormed}
+use Rattle.policy.specs.State.{mostRoles, mostFiles, rolePlaces, roleAt, fileAt, setNroles, setNfiles, withRole, putRole}
+use Rattle.shelf.specs.Shelf.{roomPast, PartInOrder, AllZero, ZeroShelf}
+use Rattle.policy.specs.WellFormed.{RoleInOrder, FileInOrder, WellFormed}
 use Rattle.policy.specs.Whole.{all-used, all-set, fine-well-formed, well-formed-fine}
-use Rattle.policy.specs.Kept.{put-places, put-fine}
+use Rattle.shelf.specs.Kept.{put-places, put-fine}
 
 -- a length that is 0 makes an empty part, which is in order for every kind
 take-none : (m : ℕ) (l : List ℕ) → m ≡ 0 → take m l ≡ []

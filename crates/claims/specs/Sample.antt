@@ -11,7 +11,8 @@ use Rattle.expression.specs.Expression.{one, term}
 use Rattle.expression.specs.Bytes.{InOrder}
 use Rattle.policy.specs.declared.Hold.the-variants.{Free, By}
 use Rattle.policy.specs.declared.State.{State}
-use Rattle.policy.specs.State.{read, write, changeProtection, vPlusPlace, m1Place, bPlace, roleAt, freshState, setNroles, setNfiles, withRole, putRole, putBytes, padded, withT1T2, withEG, withHold, holdOf, vPlusOf, vMinusOf, m1Of, m2Of, bOf, t1Of, eOf, t2Of, gOf}
+use Rattle.policy.specs.State.{read, write, changeProtection, vPlusPlace, m1Place, bPlace, roleAt, freshState, setNroles, setNfiles, withRole, putRole, withT1T2, withEG, withHold, holdOf, vPlusOf, vMinusOf, m1Of, m2Of, bOf, t1Of, eOf, t2Of, gOf}
+use Rattle.shelf.specs.Shelf.{putBytes, padded}
 use Rattle.policy.specs.WellFormed.{WellFormed}
 use Rattle.policy.specs.Fresh.{root-depth, fresh-well-formed}
 use Rattle.policy.specs.Kept.{t1t2-kept, eg-kept}

@@ -14,8 +14,10 @@ use Rattle.expression.specs.declared.Kind.the-variants.{Privilege}
 use Rattle.expression.specs.Bytes.{longest, WrongAt, MeetsBytes, MeetsT1, MeetsT2}
 use Rattle.policy.specs.declared.File.{File}
 use Rattle.policy.specs.State.{filePlaces, read, write}
-use Rattle.policy.specs.WellFormed.{PartInOrder, FileInOrder}
-use Rattle.policy.specs.Parts.{odd-kind, file-by-place}
+use Rattle.shelf.specs.Shelf.{PartInOrder}
+use Rattle.policy.specs.WellFormed.{FileInOrder}
+use Rattle.shelf.specs.Kept.{odd-kind}
+use Rattle.policy.specs.Parts.{file-by-place}
 use Rattle.gate.specs.Rules.{MediatesRow, EntersOrLeaves}
 
 -- a test that says no, where the fact does not hold

@@ -24,7 +24,7 @@ ghost use Rattle.expression.specs.Fronts.{Ready};
 ghost use Rattle.expression.specs.declared.Kind.the-variants.{Privilege, Protection};
 ghost use Rattle.policy.specs.declared.Hold.the-variants.{Free};
 ghost use Rattle.policy.specs.State.{modeCount, slotCount, mostFiles, filePlace, rolePlaces, filePlaces, rolePart, filePart, freeSlot};
-ghost use Rattle.policy.specs.WellFormed.{PartInOrder};
+ghost use Rattle.shelf.specs.Shelf.{PartInOrder};
 ghost use Rattle.gate.specs.Rules.{MediatesRow, EntersOrLeaves};
 ghost use Rattle.gate.specs.Requests.{second, inOrder, sessionConditions, rowConditions, expressionConditions, storeConditions, beginConditions, bypassConditions, Answers, Begins, Ends, Asks, Changes, Bypasses};
 ghost use Rattle.gate.specs.Effects.{effectOf, outcome, Tells};

@@ -10,7 +10,8 @@ use lib.Dec.{ltb}
 use lib.ListN.{getD, set, replicate, length-set, length-replicate, getD-replicate}
 use lib.Seq.{getD-set-same, getD-set-other}
 use Rattle.policy.specs.State.{rolePlaces, filePlaces, noRole, noFile}
-use Rattle.policy.specs.Fine.{ShelfFine, OneIs, roleShelves, fileShelves}
+use Rattle.shelf.specs.Fine.{ShelfFine}
+use Rattle.policy.specs.Fine.{OneIs, roleShelves, fileShelves}
 use Rattle.policy.specs.Fresh.{zero-places, zero-shelf}
 use Rattle.image.specs.declared.Met.{Met}
 use Rattle.image.specs.declared.Met.the-variants.{Read, Refused}

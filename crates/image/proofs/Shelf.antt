@@ -9,11 +9,9 @@ use lib.ListN.{length, take, drop, getD, set, length-drop}
 use lib.Seq.{length-take-le}
 use Rattle.expression.specs.declared.Kind.{Kind}
 use Rattle.expression.specs.Bytes.{longest, Right, InOrder}
-use Rattle.policy.specs.State.{storedAt, putBytes}
-use Rattle.policy.specs.WellFormed.{HasPlaces}
-use Rattle.policy.specs.Fine.{kindAt, ShelfFine}
-use Rattle.policy.specs.Kept.{put-places, put-fine}
-use Rattle.policy.specs.Reads.{put-here, put-there}
+use Rattle.shelf.specs.Shelf.{storedAt, putBytes, HasPlaces}
+use Rattle.shelf.specs.Fine.{kindAt, ShelfFine}
+use Rattle.shelf.specs.Kept.{put-places, put-fine, put-here, put-there}
 use Rattle.image.specs.declared.Met.{Met}
 use Rattle.image.specs.declared.Met.the-variants.{Read, Refused}
 use Rattle.image.specs.Image.{expressionBytes}

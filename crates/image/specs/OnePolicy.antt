@@ -17,9 +17,10 @@ use Rattle.policy.specs.declared.File.{File}
 use Rattle.policy.specs.declared.Hold.{Hold}
 use Rattle.policy.specs.declared.Slot.{Slot}
 use Rattle.policy.specs.declared.State.{State}
-use Rattle.policy.specs.State.{mostRoles, mostFiles, slotCount, offRole, offFile, freeSlot, storedAt, roleAt, fileAt}
-use Rattle.policy.specs.WellFormed.{HasPlaces, AllZero, ZeroShelf}
-use Rattle.policy.specs.Fine.{ShelfFine, TreeFine, OneIs, roleShelves, fileShelves}
+use Rattle.policy.specs.State.{mostRoles, mostFiles, slotCount, offRole, offFile, freeSlot, roleAt, fileAt}
+use Rattle.shelf.specs.Shelf.{storedAt, HasPlaces, AllZero, ZeroShelf}
+use Rattle.shelf.specs.Fine.{ShelfFine}
+use Rattle.policy.specs.Fine.{TreeFine, OneIs, roleShelves, fileShelves}
 use Rattle.policy.specs.Whole.{well-formed-fine}
 use Rattle.image.specs.Image.{each, parentBytes, expressionBytes, roleBytes, fileBytes, imageOf, IsImage}
 use Rattle.image.specs.Reading.{shelfBytes}

@@ -13,9 +13,9 @@ use Rattle.expression.specs.Bytes.{longest, InOrder}
 use Rattle.policy.specs.declared.Role.{Role}
 use Rattle.policy.specs.declared.File.{File}
 use Rattle.policy.specs.State.{modeCount, rolePlaces, filePlaces, vPlusPlace, vMinusPlace, m1Place, m2Place, bPlace, t1Place, ePlace, t2Place, gPlace, rolePart, filePart}
-use Rattle.policy.specs.WellFormed.{AllZero, ZeroShelf}
-use Rattle.policy.specs.Fine.{kindAt, ShelfFine}
-use Rattle.policy.specs.Shelves.{past-end}
+use Rattle.shelf.specs.Shelf.{AllZero, ZeroShelf}
+use Rattle.shelf.specs.Fine.{kindAt, ShelfFine}
+use Rattle.shelf.specs.Laws.{past-end}
 use Rattle.image.specs.Image.{each, expressionBytes, roleBytes, fileBytes}
 use Rattle.image.specs.Faults.{roleFields, fileFields}
 use Rattle.image.specs.Reading.{shelfFields, shelfBytes}

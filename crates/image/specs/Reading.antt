@@ -6,9 +6,10 @@ use Prim.Native.Nat.{ℕ, _<_}
 use lib.Dec.{ltb}
 use lib.ListN.{length, drop, getD, set}
 use Rattle.expression.specs.Bytes.{InOrder}
-use Rattle.policy.specs.State.{mostRoles, mostFiles, storedAt, offRole, offFile, putBytes}
-use Rattle.policy.specs.WellFormed.{HasPlaces}
-use Rattle.policy.specs.Fine.{kindAt, ShelfFine, TreeFine, OneIs, roleShelves, fileShelves}
+use Rattle.policy.specs.State.{mostRoles, mostFiles, offRole, offFile}
+use Rattle.shelf.specs.Shelf.{storedAt, putBytes, HasPlaces}
+use Rattle.shelf.specs.Fine.{kindAt, ShelfFine}
+use Rattle.policy.specs.Fine.{TreeFine, OneIs, roleShelves, fileShelves}
 use Rattle.image.specs.declared.Met.{Met}
 use Rattle.image.specs.declared.Met.the-variants.{Read, Refused}
 use Rattle.image.specs.declared.ByteMet.{ByteMet}

@@ -11,8 +11,8 @@ use lib.Seq.{take-all, take-append-seam, drop-append-seam, getD-append-seam, get
 use Rattle.answer.specs.Numbers.{markWrong, endsEarly, expressionWrong, leftOver}
 use Rattle.expression.specs.declared.Kind.{Kind}
 use Rattle.expression.specs.Bytes.{longest, Right, InOrder}
-use Rattle.policy.specs.State.{storedAt}
-use Rattle.policy.specs.Fine.{kindAt, ShelfFine}
+use Rattle.shelf.specs.Shelf.{storedAt}
+use Rattle.shelf.specs.Fine.{kindAt, ShelfFine}
 use Rattle.image.specs.declared.Met.{Met}
 use Rattle.image.specs.declared.Met.the-variants.{Read, Refused}
 use Rattle.image.specs.Image.{each, version1, expressionBytes}

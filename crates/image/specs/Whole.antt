@@ -17,9 +17,11 @@ use Rattle.expression.specs.Bytes.{longest}
 use Rattle.policy.specs.declared.Role.{Role}
 use Rattle.policy.specs.declared.File.{File}
 use Rattle.policy.specs.declared.State.{State}
-use Rattle.policy.specs.State.{mostRoles, mostFiles, rolePlaces, filePlaces, storedAt, roleAt, fileAt}
+use Rattle.policy.specs.State.{mostRoles, mostFiles, rolePlaces, filePlaces, roleAt, fileAt}
+use Rattle.shelf.specs.Shelf.{storedAt}
 use Rattle.policy.specs.WellFormed.{WellFormed}
-use Rattle.policy.specs.Fine.{ShelfFine, TreeFine, StateFine, OneIs, roleShelves, fileShelves}
+use Rattle.shelf.specs.Fine.{ShelfFine}
+use Rattle.policy.specs.Fine.{TreeFine, StateFine, OneIs, roleShelves, fileShelves}
 use Rattle.policy.specs.Fresh.{zero-shelf}
 use Rattle.policy.specs.Whole.{well-formed-fine}
 use Rattle.image.specs.declared.Met.{Met}

@@ -33,7 +33,7 @@ ghost use lib.ListN.{length};
 ghost use Rattle.tree.specs.Tree.{InRange};
 ghost use Rattle.expression.specs.Bytes.{longest};
 ghost use Rattle.policy.specs.State.{mostRoles, mostFiles};
-ghost use Rattle.policy.specs.Fine.{ShelfFine};
+ghost use Rattle.shelf.specs.Fine.{ShelfFine};
 ghost use Rattle.image.specs.Image.{lowFirst};
 ghost use Rattle.image.specs.Faults.{End, Version, AllThere, Cut, Expression, Meets, headFields};
 ghost use Rattle.image.specs.Load.{Loads, Gives};

@@ -2,6 +2,9 @@
 use mathlib.Core.Path.{_≡_, refl}
 use mathlib.Core.Bool.{Bool, true, false, _&&_, _||_, false≢true}
 use mathlib.Core.Logic.{_⊎_, inl, inr, ⊎-elim, _↔_}
+use Prim.Native.Nat.{ℕ, _≤_}
+use borrow.Author.Tests.{eqb-true, eq-eqb, leb-true, le-leb}
+use lib.Dec.{eqb, leb}
 
 pub and-iff : (x y : Bool) {A B : Type 0} → (x ≡ true) ↔ A → (y ≡ true) ↔ B → ((x && y) ≡ true) ↔ (A × B)
 and-iff true y f g = ((λ e. (f .0 refl, g .0 e)), λ w. g .1 (w .1))
@@ -23,3 +26,18 @@ iff-trans f g = ((λ a. g .0 (f .0 a)), λ c. f .1 (g .1 c))
 -- a test that is not true is false, and the other way round
 pub not-then-false : {x : Bool} {A : Type 0} → (x ≡ true) ↔ A → x ≡ false → A → ⊥
 not-then-false {x} f e a = false≢true (rw e at (f .1 a))
+
+-- a test that says no, where the fact does not hold
+pub no-iff : {A : Type 0} → (A → ⊥) → (false ≡ true) ↔ A
+no-iff n = ((λ e. absurd (false≢true e)), λ a. absurd (n a))
+
+-- and one that says yes
+pub yes-iff : {A : Type 0} → A → (true ≡ true) ↔ A
+yes-iff a = ((λ _. a), λ _. refl)
+
+-- a number is zero, is at most another
+pub zero-iff : (x : ℕ) → (eqb x 0 ≡ true) ↔ (x ≡ 0)
+zero-iff x = (eqb-true x 0, eq-eqb x 0)
+
+pub most-iff : (a b : ℕ) → (leb a b ≡ true) ↔ (a ≤ b)
+most-iff a b = (leb-true a b, le-leb a b)

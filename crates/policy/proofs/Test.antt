@@ -13,10 +13,6 @@ use Rattle.policy.specs.WellFormed.{WellFormed}
 use Rattle.policy.specs.Fine.{TreeExamined, roleShelves, fileShelves, AllAre, SlotsAre}
 use Rattle.policy.specs.Whole.{fine-well-formed, well-formed-fine}
 
--- a number is at most another
-pub most-iff : (a b : ℕ) → (leb a b ≡ true) ↔ (a ≤ b)
-most-iff a b = (leb-true a b, le-leb a b)
-
 -- the tests of the parts, together
 module _ (s : State) (g : Grown) (t : TreeExamined (s .tree) g) where
   pub tree-said : WellFormed s → g .ok ≡ true

@@ -7,13 +7,12 @@ use native.Mathlib.Omega.{arith}
 use lib.Dec.{eqb}
 use lib.ListN.{length, getD, take, drop, length-drop}
 use lib.Seq.{getD-drop, take-all}
-use Rattle.logic.specs.Iff.{and-iff, iff-trans}
+use Rattle.logic.specs.Iff.{and-iff, iff-trans, zero-iff}
 use Rattle.securon.specs.Sets.{securons}
 use Rattle.tree.specs.declared.Tree.{Tree}
 use Rattle.tree.specs.Tree.{IsTree}
-use Rattle.policy.specs.WellFormed.{AllZero}
+use Rattle.shelf.specs.Shelf.{AllZero}
 use Rattle.policy.specs.Fine.{TreeFine}
-use Rattle.policy.proofs.Flags.{zero-iff}
 
 module _ (t : Tree) (long : length (t .parent) ≡ securons) (tree : IsTree t) where
   rest : take (securons - t .n) (drop (t .n) (t .parent)) ≡ drop (t .n) (t .parent)

@@ -6,10 +6,9 @@ use mathlib.Core.Logic.{_↔_}
 use Prim.Native.Nat.{ℕ}
 use lib.Dec.{ltb}
 use lib.ListN.{length, getD}
-use Rattle.logic.specs.Every.{Flag}
+use Rattle.logic.specs.Every.{Flag, flag-end}
 use Rattle.logic.specs.Iff.{iff-trans}
 use Rattle.policy.specs.Fine.{Shelving, OneIs, AllAre}
-use Rattle.policy.proofs.Flags.{flag-end}
 
 module _ {X : Type 0} (k : Shelving X) (xs : List X) (long : length xs ≡ k .most) where
   -- the flag of a walk that has passed them all

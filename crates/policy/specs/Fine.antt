@@ -18,31 +18,8 @@ use Rattle.policy.specs.declared.Hold.the-variants.{By}
 use Rattle.policy.specs.declared.Slot.{Slot}
 use Rattle.policy.specs.declared.State.{State}
 use Rattle.policy.specs.declared.Grown.{Grown}
-use Rattle.policy.specs.State.{mostRoles, mostFiles, slotCount, rolePlaces, filePlaces, roomPast, offRole, offFile, freeSlot}
-use Rattle.policy.specs.WellFormed.{HasPlaces, PartInOrder, AllZero, ZeroShelf}
-
-abbrev pub kindIf : Bool → Kind
-kindIf true = Protection
-kindIf false = Privilege
-
--- the kind at place k: T1 and T2, at the even places of a file, are protection expressions; all others are privilege expressions
-abbrev pub kindAt : Bool → ℕ → Kind
-kindAt file k = kindIf (file && eqb (k % 2) 0)
-
--- the expression at place k is in order for its kind, and the room past it is zero
-pub record PlaceFine (kind : Kind) (n d : ℕ) (lens bytes : List ℕ) (k : ℕ) : Type 0 where
-  pub part : PartInOrder kind n d lens bytes k
-  pub past : AllZero (roomPast lens bytes k)
-
--- and so at every place of a shelf
-abbrev pub ShelfFine : Bool → ℕ → ℕ → List ℕ → List ℕ → Type 0
-ShelfFine file n d lens bytes = (k : ℕ) → k < length lens → PlaceFine (kindAt file k) n d lens bytes k
-
--- a shelf with its room: one that is used is fine, one that is not is zero
-pub record ShelfIs (used file : Bool) (places n d : ℕ) (lens bytes : List ℕ) : Type 0 where
-  pub room : HasPlaces places lens bytes
-  pub fine : used ≡ true → ShelfFine file n d lens bytes
-  pub zero : used ≡ false → ZeroShelf lens bytes
+use Rattle.policy.specs.State.{mostRoles, mostFiles, slotCount, rolePlaces, filePlaces, offRole, offFile, freeSlot}
+use Rattle.shelf.specs.Shelf.{roomPast, HasPlaces, PartInOrder, AllZero, ZeroShelf}
 
 -- what roles and files have in common: shelves of so many places, so many of them, and nothing past the last
 pub record Shelving (X : Type 0) : Type 0 where

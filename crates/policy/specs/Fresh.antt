@@ -10,7 +10,8 @@ use Rattle.tree.specs.Tree.{root, IsDepth}
 use Rattle.tree.specs.Laws.{one-level}
 use Rattle.expression.specs.Bytes.{longest}
 use Rattle.policy.specs.State.{slotCount, rolePlaces, filePlaces, freeSlot, noRole, noFile, rootAlone, freshState}
-use Rattle.policy.specs.WellFormed.{HasPlaces, ZeroShelf, WellFormed}
+use Rattle.shelf.specs.Shelf.{HasPlaces, ZeroShelf}
+use Rattle.policy.specs.WellFormed.{WellFormed}
 use Rattle.policy.specs.Fine.{SlotIs, Shelving, roleShelves, fileShelves, OneIs, AllAre}
 use Rattle.policy.specs.Whole.{free-held, fine-well-formed}
 

@@ -16,67 +16,13 @@ use Rattle.policy.specs.declared.Hold.{Hold}
 use Rattle.policy.specs.declared.Hold.the-variants.{Free, By}
 use Rattle.policy.specs.declared.Slot.{Slot}
 use Rattle.policy.specs.declared.State.{State}
-use Rattle.policy.specs.State.{slotCount, modeCount, filePlaces, freeSlot, fileAt, holdOf, putBytes, putPair, withHold, withPair, withT1T2, withEG, t1Place, ePlace}
-use Rattle.policy.specs.WellFormed.{HasPlaces, AllZero, ZeroShelf, WellFormed}
-use Rattle.policy.specs.Fine.{kindAt, PlaceFine, ShelfFine}
-use Rattle.policy.specs.Parts.{even-kind, odd-kind}
-use Rattle.policy.specs.Shelves.{zero-part, put-length, stored-put, past-put, stored-other, past-other}
+use Rattle.policy.specs.State.{slotCount, modeCount, filePlaces, freeSlot, fileAt, holdOf, putPair, withHold, withPair, withT1T2, withEG, t1Place, ePlace}
+use Rattle.shelf.specs.Shelf.{putBytes, HasPlaces, AllZero, ZeroShelf}
+use Rattle.policy.specs.WellFormed.{WellFormed}
+use Rattle.shelf.specs.Fine.{kindAt, PlaceFine, ShelfFine}
+use Rattle.shelf.specs.Kept.{even-kind, odd-kind}
+use Rattle.shelf.specs.Laws.{zero-part, put-length, stored-put, past-put, stored-other, past-other}
 use Rattle.policy.specs.Whole.{free-held, all-used, all-set, fine-well-formed, well-formed-fine}
-
--- x is put at place k of a shelf
-module _ {places : ℕ} {lens bytes : List ℕ} (p : HasPlaces places lens bytes) (k : ℕ) (h : k < places) (x : List ℕ) (hx : length x ≤ longest) where
-  -- the shelf has its room as before
-  pub put-places : HasPlaces places (set lens k (length x)) (putBytes bytes k x)
-  put-places = record {
-    lengths = length-set lens k (length x) ∙ p .lengths;
-    room = put-length bytes k x hx (omega (arith, p .room)) ∙ p .room;
-  }
-
-  -- and is fine, where x is in order for the kind of its place
-  pub put-fine : (file : Bool) (n d : ℕ) → ShelfFine file n d lens bytes → InOrder (kindAt file k) n d x → ShelfFine file n d (set lens k (length x)) (putBytes bytes k x)
-  put-fine file n d f o j l = go (ℕ-discrete j k)
-    where
-      here : PlaceFine (kindAt file k) n d (set lens k (length x)) (putBytes bytes k x) k
-      here =
-          let b : longest * k + longest ≤ length bytes = omega (arith, p .room) in
-          let g : k < length lens = omega (arith, p .lengths) in
-          record {
-            part = record {
-              short = omega (arith, getD-set-same lens k (length x) 0 g);
-              in-order = subst (InOrder (kindAt file k) n d) (sym (stored-put bytes k x hx b lens g)) o;
-            };
-            past = past-put bytes k x hx b lens g;
-          }
-
-      there : (j ≡ k → ⊥) → PlaceFine (kindAt file j) n d (set lens k (length x)) (putBytes bytes k x) j
-      there m =
-          let b : longest * k + longest ≤ length bytes = omega (arith, p .room) in
-          let g : j < length lens = omega (arith, length-set lens k (length x)) in
-          let c : longest * j + longest ≤ length bytes = omega (arith, p .room, p .lengths) in
-          let was = f j g in
-          record {
-            part = record {
-              short = omega (arith, getD-set-other lens k j (length x) 0 m, was .part .short);
-              in-order = subst (InOrder (kindAt file j) n d) (sym (stored-other bytes k x hx b lens j m (was .part .short) c)) (was .part .in-order);
-            };
-            past = subst AllZero (sym (past-other bytes k x hx b lens j m (was .part .short) c)) (was .past);
-          }
-
-      go : Dec (j ≡ k) → PlaceFine (kindAt file j) n d (set lens k (length x)) (putBytes bytes k x) j
-      go (yes e) = subst (λ (i : ℕ). PlaceFine (kindAt file i) n d (set lens k (length x)) (putBytes bytes k x) i) (sym e) here
-      go (no m) = there m
-
--- a shelf of zeros is fine: every expression has length 0
-pub zero-fine : (file : Bool) (n d : ℕ) {lens bytes : List ℕ} → ZeroShelf lens bytes → ShelfFine file n d lens bytes
-zero-fine file n d {lens} {bytes} z k l =
-    let none : getD lens k 0 ≡ 0 = z .lengths k in
-    record {
-      part = record {
-        short = omega arith;
-        in-order = subst (λ (m : ℕ). InOrder (kindAt file k) n d (take m (drop (longest * k) bytes))) (sym none) (omega arith, inl refl);
-      };
-      past = zero-part bytes (longest * k + getD lens k 0) (longest - getD lens k 0) (z .room);
-    }
 
 module _ (s : State) (w : WellFormed s) where
   -- a slot is set to hold what is no absent role

@@ -10,15 +10,9 @@ use Rattle.expression.specs.declared.Kind.the-variants.{Privilege, Protection}
 use Rattle.policy.specs.declared.Role.{Role}
 use Rattle.policy.specs.declared.File.{File}
 use Rattle.policy.specs.State.{rolePlaces, filePlaces, vPlusPlace, vMinusPlace, t1Place, ePlace, t2Place, gPlace}
-use Rattle.policy.specs.WellFormed.{PartInOrder, RoleInOrder, FileInOrder}
-use Rattle.policy.specs.Fine.{kindIf, kindAt}
-
--- T1 and T2 stand at a file's even places, E and G at its odd ones
-pub even-kind : (k : ℕ) → k % 2 ≡ 0 → kindAt true k ≡ Protection
-even-kind k h = ap kindIf (eq-eqb (k % 2) 0 h)
-
-pub odd-kind : (k : ℕ) → k % 2 ≡ 1 → kindAt true k ≡ Privilege
-odd-kind k h = ap kindIf (ne-eqb (k % 2) 0 (λ e. omega arith))
+use Rattle.shelf.specs.Shelf.{PartInOrder}
+use Rattle.policy.specs.WellFormed.{RoleInOrder, FileInOrder}
+use Rattle.shelf.specs.Fine.{kindIf, kindAt}
 
 module _ {n d : ℕ} {r : Role} where
   pub role-by-place : RoleInOrder n d r → (k : ℕ) → k < rolePlaces → PartInOrder Privilege n d (r .lens) (r .bytes) k

@@ -11,11 +11,12 @@ use Rattle.policy.specs.declared.File.{File}
 use Rattle.policy.specs.declared.Hold.{Hold}
 use Rattle.policy.specs.declared.Slot.{Slot}
 use Rattle.policy.specs.declared.State.{State}
-use Rattle.policy.specs.State.{slotCount, modeCount, filePlaces, storedAt, offFile, freeSlot, fileAt, holdOf, filePart, t1Of, eOf, t2Of, gOf, parts, filePlace, putBytes, putFile, putPair, withHold, withPair, withT1T2, withEG}
-use Rattle.policy.specs.WellFormed.{HasPlaces, HasRoom, WellFormed}
+use Rattle.policy.specs.State.{slotCount, modeCount, filePlaces, offFile, freeSlot, fileAt, holdOf, filePart, t1Of, eOf, t2Of, gOf, parts, filePlace, putFile, putPair, withHold, withPair, withT1T2, withEG}
+use Rattle.shelf.specs.Shelf.{storedAt, putBytes, HasPlaces}
+use Rattle.policy.specs.WellFormed.{HasRoom, WellFormed}
 use Rattle.policy.specs.Parts.{file-by-place}
-use Rattle.policy.specs.Shelves.{stored-put, stored-other}
-use Rattle.policy.specs.Kept.{put-places}
+use Rattle.shelf.specs.Laws.{stored-put, stored-other}
+use Rattle.shelf.specs.Kept.{put-places}
 
 -- a slot that is set reads as set, the others as before
 module _ (s : State) (room : HasRoom s) (i : ℕ) (h : Hold) where
@@ -24,14 +25,6 @@ module _ (s : State) (room : HasRoom s) (i : ℕ) (h : Hold) where
 
   pub hold-there : (j : ℕ) → (j ≡ i → ⊥) → holdOf (withHold s i h) j ≡ holdOf s j
   hold-there j n = ap (λ (x : Slot). x .hold) (getD-set-other (s .slots) i j (record { hold = h }) freeSlot n)
-
--- x is put at place k of a shelf
-module _ {places : ℕ} {lens bytes : List ℕ} (p : HasPlaces places lens bytes) (k : ℕ) (l : k < places) (x : List ℕ) (hx : length x ≤ longest) where
-  pub put-here : storedAt (set lens k (length x)) (putBytes bytes k x) k ≡ x
-  put-here = stored-put bytes k x hx (omega (arith, p .room)) lens (omega (arith, p .lengths))
-
-  pub put-there : (j : ℕ) → j < places → (j ≡ k → ⊥) → getD lens j 0 ≤ longest → storedAt (set lens k (length x)) (putBytes bytes k x) j ≡ storedAt lens bytes j
-  put-there j m n short = stored-other bytes k x hx (omega (arith, p .room)) lens j n short (omega (arith, p .room))
 
 -- x is put at place k of a present file, and y two places on
 module _ (s : State) (w : WellFormed s) (file : ℕ) (present : file < s .nfiles) (k : ℕ) (l : k + 2 < filePlaces) (x y : List ℕ) (hx : length x ≤ longest) (hy : length y ≤ longest) where

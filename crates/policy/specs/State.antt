@@ -88,14 +88,6 @@ gPlace mode = filePlace mode 3
 abbrev pub filePlaces : ℕ
 filePlaces = parts * modeCount
 
--- the expression at place k of a shelf: as many bytes as its length says, from 48 k on
-abbrev pub storedAt : List ℕ → List ℕ → ℕ → List ℕ
-storedAt lens bytes k = take (getD lens k 0) (drop (longest * k) bytes)
-
--- the room of place k past its expression
-abbrev pub roomPast : List ℕ → List ℕ → ℕ → List ℕ
-roomPast lens bytes k = take (longest - getD lens k 0) (drop (longest * k + getD lens k 0) bytes)
-
 -- role i, file i, and what slot i holds. (Past the last there is nothing)
 abbrev pub offRole : Role
 offRole = record { lens = []; bytes = [] }
@@ -200,14 +192,6 @@ withRole s i r = setRoles s (set (s .roles) i r)
 
 abbrev pub withFile : State → ℕ → File → State
 withFile s i f = setFiles s (set (s .files) i f)
-
--- an expression's bytes, and zero up to 48
-unfoldable pub padded : List ℕ → List ℕ
-padded x = x ++ replicate (longest - length x) 0
-
--- the bytes of a shelf with those of x at place k, the room past them zero
-unfoldable pub putBytes : List ℕ → ℕ → List ℕ → List ℕ
-putBytes bytes k x = take (longest * k) bytes ++ padded x ++ drop (longest * k + longest) bytes
 
 -- the role, the file with x stored at place k
 abbrev pub putRole : Role → ℕ → List ℕ → Role

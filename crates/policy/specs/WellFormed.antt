@@ -15,13 +15,10 @@ use Rattle.policy.specs.declared.File.{File}
 use Rattle.policy.specs.declared.Hold.the-variants.{By}
 use Rattle.policy.specs.declared.State.{State}
 use Rattle.policy.specs.declared.Examined.{Examined}
-use Rattle.policy.specs.State.{mostRoles, mostFiles, slotCount, modeCount, rolePlaces, filePlaces, vPlusPlace, vMinusPlace, m1Place, m2Place, bPlace, t1Place, ePlace, t2Place, gPlace, storedAt, roomPast, roleAt, fileAt, holdOf}
+use Rattle.policy.specs.State.{mostRoles, mostFiles, slotCount, modeCount, rolePlaces, filePlaces, vPlusPlace, vMinusPlace, m1Place, m2Place, bPlace, t1Place, ePlace, t2Place, gPlace, roleAt, fileAt, holdOf}
+use Rattle.shelf.specs.Shelf.{storedAt, roomPast}
 
 -- the room of a state: 64 parents, 32 roles of thirteen places, 32 files of twenty places, sixteen slots, each place of 48 bytes. Every state that code holds has it
-pub record HasPlaces (places : ℕ) (lens bytes : List ℕ) : Type 0 where
-  pub lengths : length lens ≡ places
-  pub room : length bytes ≡ longest * places
-
 pub record HasRoom (s : State) : Type 0 where
   pub parents : length (s .tree .parent) ≡ securons
   pub roles : length (s .roles) ≡ mostRoles
@@ -29,11 +26,6 @@ pub record HasRoom (s : State) : Type 0 where
   pub files : length (s .files) ≡ mostFiles
   pub file-places : (i : ℕ) → i < mostFiles → HasPlaces filePlaces (fileAt s i .lens) (fileAt s i .bytes)
   pub slots : length (s .slots) ≡ slotCount
-
--- the expression at place k of a shelf is in order for its kind, over n securons and the depth d: its length is at most 48, and its bytes are right
-pub record PartInOrder (kind : Kind) (n d : ℕ) (lens bytes : List ℕ) (k : ℕ) : Type 0 where
-  pub short : getD lens k 0 ≤ longest
-  pub in-order : InOrder kind n d (storedAt lens bytes k)
 
 -- a role's expressions are all privilege expressions
 pub record RoleInOrder (n d : ℕ) (r : Role) : Type 0 where
@@ -49,15 +41,6 @@ pub record FileInOrder (n d : ℕ) (f : File) : Type 0 where
   pub e : (mode : ℕ) → mode < modeCount → PartInOrder Privilege n d (f .lens) (f .bytes) (ePlace mode)
   pub t2 : (mode : ℕ) → mode < modeCount → PartInOrder Protection n d (f .lens) (f .bytes) (t2Place mode)
   pub g : (mode : ℕ) → mode < modeCount → PartInOrder Privilege n d (f .lens) (f .bytes) (gPlace mode)
-
--- every number of l is zero
-abbrev pub AllZero : List ℕ → Type 0
-AllZero l = (i : ℕ) → getD l i 0 ≡ 0
-
--- a shelf that is not used
-pub record ZeroShelf (lens bytes : List ℕ) : Type 0 where
-  pub lengths : AllZero lens
-  pub room : AllZero bytes
 
 -- unused room is zero: the root's parent and those of securons from n up; of a present role or file, the bytes of an expression past its length; every role and file from its count up. A free slot keeps nothing
 pub record UnusedZero (s : State) : Type 0 where

@@ -15,8 +15,10 @@ use Rattle.policy.specs.declared.Hold.the-variants.{Free, By}
 use Rattle.policy.specs.declared.Slot.{Slot}
 use Rattle.policy.specs.declared.State.{State}
 use Rattle.policy.specs.State.{slotCount, freeSlot, holdOf}
-use Rattle.policy.specs.WellFormed.{HasPlaces, PartInOrder, ZeroShelf, WellFormed}
-use Rattle.policy.specs.Fine.{kindAt, PlaceFine, ShelfFine, Shelving, OneIs, AllAre, StateFine}
+use Rattle.shelf.specs.Shelf.{HasPlaces, PartInOrder, ZeroShelf}
+use Rattle.policy.specs.WellFormed.{WellFormed}
+use Rattle.shelf.specs.Fine.{kindAt, PlaceFine, ShelfFine}
+use Rattle.policy.specs.Fine.{Shelving, OneIs, AllAre, StateFine}
 use Rattle.policy.specs.Parts.{role-by-place, role-by-name, file-by-place, file-by-name}
 
 -- a free slot holds no role

@@ -12,11 +12,13 @@ ghost use mathlib.Core.Bool.{true, false};
 ghost use mathlib.Core.Logic.{_↔_};
 ghost use Prim.Native.Nat.{_+_, _*_, _<_, _≤_};
 ghost use lib.ListN.{length, getD};
-ghost use Rattle.policy.specs.State.{modeCount, slotCount, rolePlaces, filePlaces, senses, parts, rolePlace, filePlace, storedAt, noRole, noFile, freshState, putBytes, putRole, putFile, putPair, withHold};
+ghost use Rattle.policy.specs.State.{modeCount, slotCount, rolePlaces, filePlaces, senses, parts, rolePlace, filePlace, noRole, noFile, freshState, putRole, putFile, putPair, withHold};
+ghost use Rattle.shelf.specs.Shelf.{storedAt, putBytes, AllZero, ZeroShelf};
 ghost use Rattle.expression.specs.Bytes.{longest, InOrder};
 ghost use Rattle.tree.specs.Tree.{IsTree};
-ghost use Rattle.policy.specs.WellFormed.{AllZero, ZeroShelf, Examines};
-ghost use Rattle.policy.specs.Fine.{kindAt, PlaceFine, ShelfFine, roleShelves, fileShelves, OneIs, SlotIs, SlotsAre, Named, RoleHeld, TreeFine, TreeExamined};
+ghost use Rattle.policy.specs.WellFormed.{Examines};
+ghost use Rattle.shelf.specs.Fine.{kindAt, PlaceFine, ShelfFine};
+ghost use Rattle.policy.specs.Fine.{roleShelves, fileShelves, OneIs, SlotIs, SlotsAre, Named, RoleHeld, TreeFine, TreeExamined};
 
 // The most roles and the most files; the slots.
 pub const ROLES: usize = 32;

@@ -2,8 +2,7 @@
 use mathlib.Core.Path.{refl}
 use mathlib.Core.Bool.{false≢true}
 use native.Mathlib.Omega.{arith}
-use Rattle.logic.specs.Iff.{not-then-false}
-use Rattle.policy.proofs.Places.{no-iff, yes-iff}
+use Rattle.logic.specs.Iff.{not-then-false, no-iff, yes-iff}
 use borrow.Author.Needs.{needs}
 use Rattle.policy.proofs.examine_tree.Statement.{statement}
 use Rattle.policy.proofs.examine_tree.Tie as tie

@@ -4,11 +4,10 @@ use Prim.Native.Nat.{ℕ, _≤_, _-_}
 use native.Mathlib.Omega.{arith}
 use borrow.Author.Needs.{needs}
 use lib.ListN.{length, getD}
-use Rattle.logic.specs.Every.{Flag, flag-none}
+use Rattle.logic.specs.Every.{Flag, flag-none, flag-and, flag-end}
 use Rattle.logic.specs.Iff.{iff-trans}
 use Rattle.policy.specs.State.{slotCount, freeSlot}
 use Rattle.policy.specs.Fine.{SlotIs}
-use Rattle.policy.proofs.Flags.{flag-and, flag-end}
 use Rattle.policy.proofs.slots_are.Statement.{statement}
 use Rattle.policy.proofs.slots_are.Tie as tie
 

@@ -2,7 +2,7 @@
 use mathlib.Core.Path.{subst}
 use native.Mathlib.Omega.{arith}
 use Rattle.tree.specs.Tree.{Shaped}
-use Rattle.policy.proofs.Places.{no-iff}
+use Rattle.logic.specs.Iff.{no-iff}
 use borrow.Author.Needs.{needs}
 use Rattle.policy.proofs.tree_fine.Statement.{statement}
 use Rattle.policy.proofs.tree_fine.Tie as tie

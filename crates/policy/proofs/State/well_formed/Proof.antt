@@ -5,10 +5,9 @@ use native.Mathlib.Omega.{arith}
 use borrow.Author.Needs.{needs}
 use lib.Dec.{ltb}
 use lib.ListN.{length, getD, length-map}
-use Rattle.logic.specs.Every.{Flag, flag-none}
+use Rattle.logic.specs.Every.{Flag, flag-none, flag-and}
 use Rattle.policy.specs.State.{mostRoles, mostFiles, offRole, offFile, roleAt}
 use Rattle.policy.specs.Fine.{OneIs, roleShelves, fileShelves}
-use Rattle.policy.proofs.Flags.{flag-and}
 use Rattle.policy.proofs.Walks.{walked}
 use Rattle.policy.proofs.Test.{tree-said, tested}
 use Rattle.policy.proofs.State.well_formed.Statement.{statement}

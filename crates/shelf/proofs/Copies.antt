@@ -7,8 +7,8 @@ use native.Mathlib.Omega.{arith}
 use lib.ListN.{length, getD, set, length-set}
 use lib.Seq.{paste, paste-zero, paste-suc}
 use Rattle.expression.specs.Bytes.{longest}
-use Rattle.policy.specs.State.{padded, putBytes}
-use Rattle.policy.specs.Shelves.{length-padded, padded-at, put-paste}
+use Rattle.shelf.specs.Shelf.{padded, putBytes}
+use Rattle.shelf.specs.Laws.{length-padded, padded-at, put-paste}
 
 -- c is b with the first i bytes of the store of x at place k
 pub record Copied (b : List ℕ) (k : ℕ) (x c : List ℕ) (i : ℕ) : Type 0 where

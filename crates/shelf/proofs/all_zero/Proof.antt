@@ -1,13 +1,13 @@
--- `policy::all_zero` meets its contract: the flag says of every byte passed that it is zero. The measure is what is left of the bytes. Assumes nothing.
+-- `shelf::all_zero` meets its contract: the flag says of every byte passed that it is zero. The measure is what is left of the bytes. Assumes nothing.
 use mathlib.Core.Path.{_≡_}
 use Prim.Native.Nat.{ℕ, _≤_, _-_}
 use native.Mathlib.Omega.{arith}
 use borrow.Author.Needs.{needs}
 use lib.ListN.{length, getD, List·getD-eq-default}
-use Rattle.logic.specs.Every.{Flag, flag-none, flag-all}
-use Rattle.policy.proofs.Flags.{flag-and, zero-iff}
-use Rattle.policy.proofs.all_zero.Statement.{statement}
-use Rattle.policy.proofs.all_zero.Tie as tie
+use Rattle.logic.specs.Every.{Flag, flag-none, flag-all, flag-and}
+use Rattle.logic.specs.Iff.{zero-iff}
+use Rattle.shelf.proofs.all_zero.Statement.{statement}
+use Rattle.shelf.proofs.all_zero.Tie as tie
 
 abbrev Inv-loop : tie.InvT-loop
 Inv-loop s zero₀ i₀ i-end zero i = (i-end ≡ length s) × (i ≤ i-end) × Flag (λ (k : ℕ). getD s k 0 ≡ 0) i zero

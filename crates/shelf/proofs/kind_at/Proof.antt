@@ -1,8 +1,8 @@
--- `policy::kind_at` meets its contract: the test picks the kind. Assumes nothing.
+-- `shelf::kind_at` meets its contract: the test picks the kind. Assumes nothing.
 use mathlib.Core.Path.{sym, ap}
-use Rattle.policy.specs.Fine.{kindIf}
-use Rattle.policy.proofs.kind_at.Statement.{statement}
-use Rattle.policy.proofs.kind_at.Tie as tie
+use Rattle.shelf.specs.Fine.{kindIf}
+use Rattle.shelf.proofs.kind_at.Statement.{statement}
+use Rattle.shelf.proofs.kind_at.Tie as tie
 
 returns : tie.Need-returns
 returns c = sym (ap kindIf (c .if1 .taken))

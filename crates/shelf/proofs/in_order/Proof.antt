@@ -1,10 +1,11 @@
--- `policy::in_order` meets its contract: the check finds a fault exactly if the expression is not in order. Assumes nothing.
+-- `shelf::in_order` meets its contract: the check finds a fault exactly if the expression is not in order. Assumes nothing.
 use mathlib.Core.Path.{refl, subst}
 use Rattle.expression.specs.Bytes.{Checks}
-use Rattle.policy.proofs.Places.{no-iff, wrong-disorder}
+use Rattle.logic.specs.Iff.{no-iff}
+use Rattle.shelf.proofs.Places.{wrong-disorder}
 use borrow.Author.Needs.{needs}
-use Rattle.policy.proofs.in_order.Statement.{statement}
-use Rattle.policy.proofs.in_order.Tie as tie
+use Rattle.shelf.proofs.in_order.Statement.{statement}
+use Rattle.shelf.proofs.in_order.Tie as tie
 
 check-requires : tie.Need-check-requires
 check-requires c κs = search needs

@@ -1,12 +1,12 @@
--- `policy::stored` meets its contract: the part is as long as the length says. Assumes nothing.
+-- `shelf::stored` meets its contract: the part is as long as the length says. Assumes nothing.
 use mathlib.Core.Path.{_≡_, ap, _∙_}
 use Prim.Native.Nat.{ℕ, _+_, _*_, _-_}
 use native.Mathlib.Omega.{arith}
 use lib.ListN.{take, drop}
 use Rattle.expression.specs.Bytes.{longest}
 use borrow.Author.Needs.{needs}
-use Rattle.policy.proofs.stored.Statement.{statement}
-use Rattle.policy.proofs.stored.Tie as tie
+use Rattle.shelf.proofs.stored.Statement.{statement}
+use Rattle.shelf.proofs.stored.Tie as tie
 
 mul-start : tie.Need-mul-start
 mul-start c = search needs

@@ -1,14 +1,13 @@
--- `policy::shelf_fine` meets its contract: the flag says of every place passed that it is fine. The measure is what is left of the places. Assumes nothing.
+-- `shelf::shelf_fine` meets its contract: the flag says of every place passed that it is fine. The measure is what is left of the places. Assumes nothing.
 use mathlib.Core.Path.{_≡_}
 use Prim.Native.Nat.{ℕ, _≤_, _-_}
 use native.Mathlib.Omega.{arith}
 use borrow.Author.Needs.{needs}
 use lib.ListN.{length}
-use Rattle.logic.specs.Every.{Flag, flag-none}
-use Rattle.policy.specs.Fine.{kindAt, PlaceFine}
-use Rattle.policy.proofs.Flags.{flag-and, flag-end}
-use Rattle.policy.proofs.shelf_fine.Statement.{statement}
-use Rattle.policy.proofs.shelf_fine.Tie as tie
+use Rattle.logic.specs.Every.{Flag, flag-none, flag-and, flag-end}
+use Rattle.shelf.specs.Fine.{kindAt, PlaceFine}
+use Rattle.shelf.proofs.shelf_fine.Statement.{statement}
+use Rattle.shelf.proofs.shelf_fine.Tie as tie
 
 abbrev Inv-loop : tie.InvT-loop
 Inv-loop file n depth lens bytes ok₀ k₀ k-end ok k = (k-end ≡ length lens) × (k ≤ k-end) × Flag (λ (i : ℕ). PlaceFine (kindAt file i) n (depth .0) lens bytes i) k ok

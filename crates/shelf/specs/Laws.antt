@@ -8,8 +8,7 @@ use native.Mathlib.Omega.{arith}
 use lib.ListN.{length, take, drop, getD, set, replicate, length-append, length-take, length-replicate, length-drop, getD-replicate, List·getD-append, List·getD-eq-default}
 use lib.Seq.{paste, take-all, length-take-le, getD-append-add, getD-take, getD-drop, getD-set-same, getD-set-other, ext-getD}
 use Rattle.expression.specs.Bytes.{longest}
-use Rattle.policy.specs.State.{storedAt, roomPast, padded, putBytes}
-use Rattle.policy.specs.WellFormed.{AllZero}
+use Rattle.shelf.specs.Shelf.{storedAt, roomPast, padded, putBytes, AllZero}
 
 pub length-padded : (x : List ℕ) → length x ≤ longest → length (padded x) ≡ longest
 unfolding padded

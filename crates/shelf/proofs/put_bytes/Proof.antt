@@ -1,4 +1,4 @@
--- `policy::put_bytes` meets its contract: so many bytes of the store are done, first those of x, then zero. The measures are what is left of each. Assumes nothing.
+-- `shelf::put_bytes` meets its contract: so many bytes of the store are done, first those of x, then zero. The measures are what is left of each. Assumes nothing.
 use mathlib.Core.Path.{_≡_, refl, sym, subst}
 use mathlib.Core.List.{List}
 use Prim.Native.Nat.{ℕ, _+_, _*_, _≤_, _-_}
@@ -6,10 +6,10 @@ use native.Mathlib.Omega.{arith}
 use borrow.Author.Needs.{needs}
 use lib.ListN.{length}
 use Rattle.expression.specs.Bytes.{longest}
-use Rattle.policy.specs.Shelves.{past-end}
-use Rattle.policy.proofs.Copies.{Copied, copied-none, copied-more, copied-all}
-use Rattle.policy.proofs.put_bytes.Statement.{statement}
-use Rattle.policy.proofs.put_bytes.Tie as tie
+use Rattle.shelf.specs.Laws.{past-end}
+use Rattle.shelf.proofs.Copies.{Copied, copied-none, copied-more, copied-all}
+use Rattle.shelf.proofs.put_bytes.Statement.{statement}
+use Rattle.shelf.proofs.put_bytes.Tie as tie
 
 abbrev Inv-loop : tie.InvT-loop
 Inv-loop bytes₀ k x at i₀ i-end bytes i = (i-end ≡ length x) × (i ≤ i-end) × Copied bytes₀ k x bytes i

@@ -1,8 +1,8 @@
--- `policy::place_fine` meets its contract: the length is judged first; then the bytes up to it and those past it. Assumes nothing.
-use Rattle.policy.proofs.Places.{place-over, place-both}
+-- `shelf::place_fine` meets its contract: the length is judged first; then the bytes up to it and those past it. Assumes nothing.
+use Rattle.shelf.proofs.Places.{place-over, place-both}
 use borrow.Author.Needs.{needs}
-use Rattle.policy.proofs.place_fine.Statement.{statement}
-use Rattle.policy.proofs.place_fine.Tie as tie
+use Rattle.shelf.proofs.place_fine.Statement.{statement}
+use Rattle.shelf.proofs.place_fine.Tie as tie
 
 shared-slice-read-wide : tie.Need-shared-slice-read-wide
 shared-slice-read-wide c = search needs

@@ -1,0 +1,4 @@
+pub mod Shelf
+pub mod Fine
+pub mod Laws
+pub mod Kept
