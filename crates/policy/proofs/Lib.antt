@@ -1,4 +1,5 @@
 pub mod Places
+pub mod Slots
 pub mod Trees
 pub mod Test
 pub mod Walks

@@ -12,7 +12,7 @@ use Rattle.securon.specs.Sets.{securons}
 use Rattle.tree.specs.declared.Tree.{Tree}
 use Rattle.tree.specs.Tree.{IsTree}
 use Rattle.shelf.specs.Shelf.{AllZero}
-use Rattle.policy.specs.Fine.{TreeFine}
+use Rattle.policy.specs.WellFormed.{TreeFine}
 
 module _ (t : Tree) (long : length (t .parent) ≡ securons) (tree : IsTree t) where
   rest : take (securons - t .n) (drop (t .n) (t .parent)) ≡ drop (t .n) (t .parent)

@@ -4,7 +4,6 @@ use mathlib.Core.Bool.{Bool, true}
 use mathlib.Core.List.{List}
 use mathlib.Core.Logic.{_↔_}
 use Prim.Native.Nat.{ℕ}
-use lib.Dec.{ltb}
 use lib.ListN.{length, getD}
 use Rattle.logic.specs.Every.{Flag, flag-end}
 use Rattle.logic.specs.Iff.{iff-trans}
@@ -12,5 +11,6 @@ use Rattle.policy.specs.Fine.{Shelving, OneIs, AllAre}
 
 module _ {X : Type 0} (k : Shelving X) (xs : List X) (long : length xs ≡ k .most) where
   -- the flag of a walk that has passed them all
-  pub walked : {count n d i : ℕ} {ok : Bool} → Flag (λ (j : ℕ). OneIs k (ltb j count) n d (getD xs j (k .off))) i ok → i ≡ k .most → (ok ≡ true) ↔ AllAre k count n d xs
+  pub walked : {used : ℕ → Bool} {n d i : ℕ} {ok : Bool} → Flag (λ (j : ℕ). OneIs k (used j) n d (getD xs j (k .off))) i ok → i ≡ k .most
+      → (ok ≡ true) ↔ AllAre k used n d xs
   walked f e = iff-trans (flag-end f e) ((λ w. record { room = long; each = w }), λ w. w .each)

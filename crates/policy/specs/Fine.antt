@@ -1,25 +1,21 @@
--- Well formed, shelf by shelf, as the test goes: what each of its functions tells. A device of the proofs.
+-- Well formed, shelf by shelf, as the examination goes: what each of its functions tells. A device of the proofs.
 use mathlib.Core.Path.{_≡_, refl}
-use mathlib.Core.Bool.{Bool, true, false, _&&_}
+use mathlib.Core.Bool.{Bool, true, false}
 use mathlib.Core.List.{List, []}
 use mathlib.Core.Logic.{_↔_}
-use Prim.Native.Nat.{ℕ, _<_, _≤_, _%_}
-use lib.Dec.{eqb, ltb}
+use Prim.Native.Nat.{ℕ, _<_, _≤_}
+use lib.Dec.{ltb}
 use lib.ListN.{length, getD}
-use Rattle.securon.specs.Sets.{securons}
 use Rattle.tree.specs.declared.Tree.{Tree}
-use Rattle.tree.specs.Tree.{IsTree, LevelsOf}
-use Rattle.expression.specs.declared.Kind.{Kind}
-use Rattle.expression.specs.declared.Kind.the-variants.{Privilege, Protection}
+use Rattle.tree.specs.Tree.{LevelsOf}
+use Rattle.shelf.specs.Shelf.{ZeroShelf}
+use Rattle.shelf.specs.Fine.{ShelfIs}
 use Rattle.policy.specs.declared.Role.{Role}
 use Rattle.policy.specs.declared.File.{File}
-use Rattle.policy.specs.declared.Hold.{Hold}
-use Rattle.policy.specs.declared.Hold.the-variants.{By}
-use Rattle.policy.specs.declared.Slot.{Slot}
 use Rattle.policy.specs.declared.State.{State}
 use Rattle.policy.specs.declared.Grown.{Grown}
-use Rattle.policy.specs.State.{mostRoles, mostFiles, slotCount, rolePlaces, filePlaces, offRole, offFile, freeSlot}
-use Rattle.shelf.specs.Shelf.{roomPast, HasPlaces, PartInOrder, AllZero, ZeroShelf}
+use Rattle.policy.specs.State.{mostRoles, mostFiles, slotCount, rolePlaces, filePlaces, offRole, offFile, By, heldIn, roleIn, noLevels}
+use Rattle.policy.specs.WellFormed.{TreeFine}
 
 -- what roles and files have in common: shelves of so many places, so many of them, and nothing past the last
 pub record Shelving (X : Type 0) : Type 0 where
@@ -35,56 +31,70 @@ pub nil-zero : ZeroShelf [] []
 nil-zero = record { lengths = λ i. refl; room = λ i. refl }
 
 abbrev pub roleShelves : Shelving Role
-roleShelves = record { lensOf = λ r. r .lens; bytesOf = λ r. r .bytes; off = offRole; nothing = nil-zero; file = false; places = rolePlaces; most = mostRoles }
+roleShelves = record {
+  lensOf = λ r. r .lens;
+  bytesOf = λ r. r .bytes;
+  off = offRole;
+  nothing = nil-zero;
+  file = false;
+  places = rolePlaces;
+  most = mostRoles;
+}
 
 abbrev pub fileShelves : Shelving File
-fileShelves = record { lensOf = λ f. f .lens; bytesOf = λ f. f .bytes; off = offFile; nothing = nil-zero; file = true; places = filePlaces; most = mostFiles }
+fileShelves = record {
+  lensOf = λ f. f .lens;
+  bytesOf = λ f. f .bytes;
+  off = offFile;
+  nothing = nil-zero;
+  file = true;
+  places = filePlaces;
+  most = mostFiles;
+}
 
 -- one of them
 abbrev pub OneIs : {X : Type 0} → Shelving X → Bool → ℕ → ℕ → X → Type 0
 OneIs k used n d x = ShelfIs used (k .file) (k .places) n d (k .lensOf x) (k .bytesOf x)
 
--- all of them: those below the count are used
-pub record AllAre {X : Type 0} (k : Shelving X) (count n d : ℕ) (xs : List X) : Type 0 where
+-- all of them; which are used says `used`
+pub record AllAre {X : Type 0} (k : Shelving X) (used : ℕ → Bool) (n d : ℕ) (xs : List X) : Type 0 where
   pub room : length xs ≡ k .most
-  pub each : (i : ℕ) → i < k .most → OneIs k (ltb i count) n d (getD xs i (k .off))
+  pub each : (i : ℕ) → i < k .most → OneIs k (used i) n d (getD xs i (k .off))
+
+-- which roles and which files are there, as the test has it
+abbrev pub roleUsed : State → ℕ → Bool
+roleUsed s i = ltb i (s .nroles)
+
+abbrev pub fileUsed : State → ℕ → Bool
+fileUsed s i = ltb i (s .nfiles)
 
 -- a role that the slot holds is below the count
-abbrev pub SlotIs : ℕ → Slot → Type 0
-SlotIs count s = (r : ℕ) → s .hold ≡ By r → r < count
+abbrev pub SlotIs : ℕ → ℕ → Type 0
+SlotIs count x = (r : ℕ) → heldIn x ≡ By r → r < count
 
-pub record SlotsAre (count : ℕ) (slots : List Slot) : Type 0 where
+pub record SlotsAre (count : ℕ) (slots : List ℕ) : Type 0 where
   pub room : length slots ≡ slotCount
-  pub each : (i : ℕ) → i < slotCount → SlotIs count (getD slots i freeSlot)
+  pub each : (i : ℕ) → i < slotCount → SlotIs count (getD slots i 0)
 
--- x is the role number that a hold names, where it names one
-abbrev pub Named : Hold → ℕ → Type 0
-Named h x = (k : ℕ) → h ≡ By k → x ≡ k
-
--- x is the number of a role: of the one that the slot holds, where it holds one of the 32
-pub record RoleHeld (slots : List Slot) (slot x : ℕ) : Type 0 where
+-- x is the number of a role: of the one of the slot's session, where that is one of the 32, else 0
+pub record RoleHeld (slots : List ℕ) (slot x : ℕ) : Type 0 where
   pub within : x < mostRoles
-  pub is : (k : ℕ) → slot < slotCount → getD slots slot freeSlot .hold ≡ By k → k < mostRoles → x ≡ k
-
--- a tree whose parents that no securon has are zero
-pub record TreeFine (t : Tree) : Type 0 where
-  pub room : length (t .parent) ≡ securons
-  pub is-tree : IsTree t
-  pub root : getD (t .parent) 0 0 ≡ 0
-  pub past : (u : ℕ) → t .n ≤ u → getD (t .parent) u 0 ≡ 0
+  pub is : roleIn (heldIn (getD slots slot 0)) < mostRoles → x ≡ roleIn (heldIn (getD slots slot 0))
+  pub else : mostRoles ≤ roleIn (heldIn (getD slots slot 0)) → x ≡ 0
 
 -- what the test of a tree tells
 pub record TreeExamined (t : Tree) (r : Grown) : Type 0 where
   pub says : (r .ok ≡ true) ↔ TreeFine t
   pub some : 0 < r .n
-  pub count : r .ok ≡ true → r .n ≡ t .n
-  pub levels : r .ok ≡ true → LevelsOf t (r .levels)
+  pub count : TreeFine t → r .n ≡ t .n
+  pub levels : TreeFine t → LevelsOf t (r .levels)
+  pub no-levels : (TreeFine t → ⊥) → r .levels ≡ noLevels
 
 -- a state part by part, over the depth d of its tree
 pub record StateFine (s : State) (d : ℕ) : Type 0 where
   pub tree : TreeFine (s .tree)
   pub role-count : s .nroles ≤ mostRoles
   pub file-count : s .nfiles ≤ mostFiles
-  pub roles : AllAre roleShelves (s .nroles) (s .tree .n) d (s .roles)
-  pub files : AllAre fileShelves (s .nfiles) (s .tree .n) d (s .files)
+  pub roles : AllAre roleShelves (roleUsed s) (s .tree .n) d (s .roles)
+  pub files : AllAre fileShelves (fileUsed s) (s .tree .n) d (s .files)
   pub slots : SlotsAre (s .nroles) (s .slots)

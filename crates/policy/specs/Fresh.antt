@@ -9,7 +9,7 @@ use Rattle.securon.specs.Sets.{securons}
 use Rattle.tree.specs.Tree.{root, IsDepth}
 use Rattle.tree.specs.Laws.{one-level}
 use Rattle.expression.specs.Bytes.{longest}
-use Rattle.policy.specs.State.{slotCount, rolePlaces, filePlaces, freeSlot, noRole, noFile, rootAlone, freshState}
+use Rattle.policy.specs.State.{slotCount, rolePlaces, filePlaces, noRole, noFile, rootAlone, freshState}
 use Rattle.shelf.specs.Shelf.{HasPlaces, ZeroShelf}
 use Rattle.policy.specs.WellFormed.{WellFormed}
 use Rattle.policy.specs.Fine.{SlotIs, Shelving, roleShelves, fileShelves, OneIs, AllAre}
@@ -29,13 +29,13 @@ pub zero-shelf : (places : ℕ) → ZeroShelf (replicate places 0) (replicate (l
 zero-shelf places = record { lengths = zeros-at places; room = zeros-at (longest * places) }
 
 -- none is used, and all are zero
-all-zero : {X : Type 0} (k : Shelving X) (n d : ℕ) (x : X) → HasPlaces (k .places) (k .lensOf x) (k .bytesOf x) → ZeroShelf (k .lensOf x) (k .bytesOf x) → AllAre k 0 n d (replicate (k .most) x)
+all-zero : {X : Type 0} (k : Shelving X) (n d : ℕ) (x : X) → HasPlaces (k .places) (k .lensOf x) (k .bytesOf x) → ZeroShelf (k .lensOf x) (k .bytesOf x)
+    → AllAre k (λ i. ltb i 0) n d (replicate (k .most) x)
 all-zero k n d x room none = record {
   room = length-replicate (k .most) x;
   each = λ i h. subst (OneIs k (ltb i 0) n d) (sym (getD-replicate (k .most) i x (k .off) h)) (record {
     room = room;
-    fine = λ e. absurd (omega (arith, ltb-true i 0 e));
-    zero = λ _. none;
+    is = record { fine = λ e. absurd (omega (arith, ltb-true i 0 e)); zero = λ _. none };
   });
 }
 
@@ -59,7 +59,7 @@ fresh-well-formed = fine-well-formed freshState 0 root-depth (record {
   roles = all-zero roleShelves 1 0 noRole (zero-places rolePlaces) (zero-shelf rolePlaces);
   files = all-zero fileShelves 1 0 noFile (zero-places filePlaces) (zero-shelf filePlaces);
   slots = record {
-    room = length-replicate slotCount freeSlot;
-    each = λ i h. subst (SlotIs 0) (sym (getD-replicate slotCount i freeSlot freeSlot h)) (λ r e. absurd (free-held e));
+    room = length-replicate {A = ℕ} slotCount 0;
+    each = λ i h. subst (SlotIs 0) (sym (getD-replicate {A = ℕ} slotCount i 0 0 h)) (λ r e. absurd (free-held e));
   };
 })

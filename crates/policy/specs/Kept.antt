@@ -1,32 +1,27 @@
 -- A well-formed state stays so where a slot is set, and where two expressions in order are stored. Assumes nothing.
-use mathlib.Core.Path.{_≡_, refl, sym, ap, _∙_, subst}
-use mathlib.Core.Bool.{Bool, true}
+use mathlib.Core.Path.{_≡_, sym, ap, _∙_, subst}
+use mathlib.Core.Bool.{true}
 use mathlib.Core.List.{List}
-use mathlib.Core.Logic.{inl}
-use Prim.Native.Nat.{ℕ, _+_, _*_, _-_, _<_, _≤_}
+use Prim.Native.Nat.{ℕ, _+_, _<_}
 use native.Mathlib.Decide.{ℕ-discrete}
 use native.Mathlib.Omega.{arith}
-use lib.ListN.{length, getD, take, drop, set, length-set}
+use lib.ListN.{length, getD, set, length-set}
 use lib.Seq.{getD-set-same, getD-set-other}
 use Rattle.tree.specs.Tree.{IsDepth}
 use Rattle.expression.specs.declared.Kind.{Kind}
 use Rattle.expression.specs.declared.Kind.the-variants.{Privilege, Protection}
-use Rattle.expression.specs.Bytes.{longest, InOrder}
-use Rattle.policy.specs.declared.Hold.{Hold}
-use Rattle.policy.specs.declared.Hold.the-variants.{Free, By}
-use Rattle.policy.specs.declared.Slot.{Slot}
+use Rattle.expression.specs.Bytes.{InOrder}
+use Rattle.shelf.specs.Fine.{kindAt, ShelfFine}
+use Rattle.shelf.specs.Kept.{even-kind, odd-kind, put-places, put-fine}
 use Rattle.policy.specs.declared.State.{State}
-use Rattle.policy.specs.State.{slotCount, modeCount, filePlaces, freeSlot, fileAt, holdOf, putPair, withHold, withPair, withT1T2, withEG, t1Place, ePlace}
-use Rattle.shelf.specs.Shelf.{putBytes, HasPlaces, AllZero, ZeroShelf}
+use Rattle.policy.specs.State.{slotCount, IsMode, filePlaces, Hold, Free, By, heldIn, slotWith, fileAt, holdOf, RolePresent, Present}
+use Rattle.policy.specs.State.{putPair, withHold, withPair, withT1T2, withEG, t1Place, ePlace}
 use Rattle.policy.specs.WellFormed.{WellFormed}
-use Rattle.shelf.specs.Fine.{kindAt, PlaceFine, ShelfFine}
-use Rattle.shelf.specs.Kept.{even-kind, odd-kind}
-use Rattle.shelf.specs.Laws.{zero-part, put-length, stored-put, past-put, stored-other, past-other}
-use Rattle.policy.specs.Whole.{free-held, all-used, all-set, fine-well-formed, well-formed-fine}
+use Rattle.policy.specs.Whole.{free-held, held-written, file-used, all-used, all-set, fine-well-formed, well-formed-fine}
 
 module _ (s : State) (w : WellFormed s) where
   -- a slot is set to hold what is no absent role
-  pub hold-kept : (i : ℕ) → i < slotCount → (h : Hold) → ((r : ℕ) → h ≡ By r → r < s .nroles) → WellFormed (withHold s i h)
+  pub hold-kept : (i : ℕ) → i < slotCount → (h : Hold) → ((r : ℕ) → h ≡ By r → RolePresent s r) → WellFormed (withHold s i h)
   hold-kept i l h present = record {
     room = record {
       parents = w .room .parents;
@@ -34,7 +29,7 @@ module _ (s : State) (w : WellFormed s) where
       role-places = w .room .role-places;
       files = w .room .files;
       file-places = w .room .file-places;
-      slots = length-set (s .slots) i (record { hold = h }) ∙ w .room .slots;
+      slots = length-set (s .slots) i (slotWith h) ∙ w .room .slots;
     };
     tree = w .tree;
     role-count = w .role-count;
@@ -54,38 +49,46 @@ module _ (s : State) (w : WellFormed s) where
     };
   }
     where
-      go : (j r : ℕ) → holdOf (withHold s i h) j ≡ By r → Dec (j ≡ i) → r < s .nroles
+      go : (j r : ℕ) → holdOf (withHold s i h) j ≡ By r → Dec (j ≡ i) → RolePresent s r
       go j r e (yes q) =
-          present r (sym (ap (λ (x : Slot). x .hold) (getD-set-same (s .slots) i (record { hold = h }) freeSlot (omega (arith, w .room .slots)))) ∙ ap (λ (k : ℕ). holdOf (withHold s i h) k) (sym q) ∙ e)
-      go j r e (no n) =
-          w .held-present j r (sym (ap (λ (x : Slot). x .hold) (getD-set-other (s .slots) i j (record { hold = h }) freeSlot n)) ∙ e)
+          let there = getD-set-same (s .slots) i (slotWith h) 0 (omega (arith, w .room .slots)) in
+          let here = ap (λ (k : ℕ). holdOf (withHold s i h) k) q ∙ ap heldIn there ∙ held-written h in
+          present r (sym here ∙ e)
+      go j r e (no n) = w .held-present j r (sym (ap heldIn (getD-set-other (s .slots) i j (slotWith h) 0 n)) ∙ e)
 
   -- begin: the slot holds a role that is present
-  pub by-kept : (i r : ℕ) → i < slotCount → r < s .nroles → WellFormed (withHold s i (By r))
-  by-kept i r l p = hold-kept i l (By r) (λ q e. let same : r ≡ q = cc in omega arith)
+  pub by-kept : (i r : ℕ) → i < slotCount → RolePresent s r → WellFormed (withHold s i (By r))
+  by-kept i r l p = hold-kept i l (By r) (λ q e. let same : r ≡ q = cc in subst (RolePresent s) same p)
 
   -- end: the slot is free
   pub free-kept : (i : ℕ) → i < slotCount → WellFormed (withHold s i Free)
   free-kept i l = hold-kept i l Free (λ q e. absurd (free-held e))
 
-  module _ (d : ℕ) (deep : IsDepth (s .tree) d) (file : ℕ) (present : file < s .nfiles) where
+  module _ (d : ℕ) (deep : IsDepth (s .tree) d) (file : ℕ) (present : Present s file) where
     -- two expressions are stored that are in order for the kinds of their places
-    pub pair-kept : (k : ℕ) (x y : List ℕ) → k + 2 < filePlaces → InOrder (kindAt true k) (s .tree .n) d x → InOrder (kindAt true (k + 2)) (s .tree .n) d y → WellFormed (withPair s file k x y)
+    pub pair-kept : (k : ℕ) (x y : List ℕ) → k + 2 < filePlaces
+        → InOrder (kindAt true k) (s .tree .n) d x → InOrder (kindAt true (k + 2)) (s .tree .n) d y → WellFormed (withPair s file k x y)
     pair-kept k x y h o q =
         let all = well-formed-fine s d deep w in
-        let room = w .room .file-places file (omega (arith, w .file-count)) in
+        let few : file < 32 = omega (arith, w .file-count) in
+        let room = w .room .file-places file few in
         let first = put-places room k (omega arith) x (o .0) in
-        let fine = put-fine room k (omega arith) x (o .0) true _ _ (λ j l. all-used (all .files) file j present (omega (arith, w .file-count)) (omega (arith, room .lengths))) o in
+        let old = fileAt s file in
+        let was : ShelfFine true (s .tree .n) d (old .lens) (old .bytes) =
+        λ j l. all-used (all .files) file j (file-used s present) few (omega (arith, room .lengths)) in
+        let fine = put-fine room k (omega arith) x (o .0) true _ _ was o in
+        let both = put-fine first (k + 2) h y (q .0) true _ _ fine q in
+        let new = putPair old k x y in
         fine-well-formed (withPair s file k x y) d deep (record {
           tree = all .tree;
           role-count = all .role-count;
           file-count = all .file-count;
           roles = all .roles;
-          files = all-set (all .files) file present (omega (arith, w .file-count)) (putPair (fileAt s file) k x y) (put-places first (k + 2) h y (q .0)) (put-fine first (k + 2) h y (q .0) true _ _ fine q);
+          files = all-set (all .files) file (file-used s present) few new (put-places first (k + 2) h y (q .0)) both;
           slots = all .slots;
         })
 
-    module _ (mode : ℕ) (few : mode < modeCount) (x y : List ℕ) where
+    module _ (mode : ℕ) (few : IsMode mode) (x y : List ℕ) where
       -- change: T1 and T2 are stored
       pub t1t2-kept : InOrder Protection (s .tree .n) d x → InOrder Protection (s .tree .n) d y → WellFormed (withT1T2 s file mode x y)
       t1t2-kept o q = pair-kept (t1Place mode) x y (omega arith)

@@ -3,7 +3,6 @@ pub mod WellFormed
 pub mod Fine
 pub mod Parts
 pub mod Whole
-pub mod Shelves
 pub mod Kept
 pub mod Fresh
 pub mod Reads

@@ -1,10 +1,9 @@
 -- The parts of a role and of a file by name, and by the number of their place. Assumes nothing.
-use mathlib.Core.Path.{_≡_, sym, ap, subst}
+use mathlib.Core.Path.{_≡_, sym, subst}
 use mathlib.Core.Bool.{true}
 use Prim.Native.Nat.{ℕ, _/_, _%_, _<_}
 use native.Mathlib.Decide.{decLt, ℕ-discrete}
 use native.Mathlib.Omega.{arith}
-use borrow.Author.Tests.{eq-eqb, ne-eqb}
 use Rattle.expression.specs.declared.Kind.{Kind}
 use Rattle.expression.specs.declared.Kind.the-variants.{Privilege, Protection}
 use Rattle.policy.specs.declared.Role.{Role}
@@ -12,7 +11,8 @@ use Rattle.policy.specs.declared.File.{File}
 use Rattle.policy.specs.State.{rolePlaces, filePlaces, vPlusPlace, vMinusPlace, t1Place, ePlace, t2Place, gPlace}
 use Rattle.shelf.specs.Shelf.{PartInOrder}
 use Rattle.policy.specs.WellFormed.{RoleInOrder, FileInOrder}
-use Rattle.shelf.specs.Fine.{kindIf, kindAt}
+use Rattle.shelf.specs.Fine.{kindAt}
+use Rattle.shelf.specs.Kept.{even-kind, odd-kind}
 
 module _ {n d : ℕ} {r : Role} where
   pub role-by-place : RoleInOrder n d r → (k : ℕ) → k < rolePlaces → PartInOrder Privilege n d (r .lens) (r .bytes) k

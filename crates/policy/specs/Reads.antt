@@ -7,27 +7,27 @@ use native.Mathlib.Omega.{arith}
 use lib.ListN.{length, getD, set}
 use lib.Seq.{getD-set-same, getD-set-other}
 use Rattle.expression.specs.Bytes.{longest}
+use Rattle.shelf.specs.Shelf.{HasPlaces}
+use Rattle.shelf.specs.Kept.{put-places, put-here, put-there}
 use Rattle.policy.specs.declared.File.{File}
-use Rattle.policy.specs.declared.Hold.{Hold}
-use Rattle.policy.specs.declared.Slot.{Slot}
 use Rattle.policy.specs.declared.State.{State}
-use Rattle.policy.specs.State.{slotCount, modeCount, filePlaces, offFile, freeSlot, fileAt, holdOf, filePart, t1Of, eOf, t2Of, gOf, parts, filePlace, putFile, putPair, withHold, withPair, withT1T2, withEG}
-use Rattle.shelf.specs.Shelf.{storedAt, putBytes, HasPlaces}
+use Rattle.policy.specs.State.{slotCount, IsMode, filePlaces, Hold, heldIn, slotWith, offFile, fileAt, Present, holdOf, filePart, t1Of, eOf, t2Of, gOf}
+use Rattle.policy.specs.State.{parts, filePlace, putFile, putPair, withHold, withPair, withT1T2, withEG}
 use Rattle.policy.specs.WellFormed.{HasRoom, WellFormed}
 use Rattle.policy.specs.Parts.{file-by-place}
-use Rattle.shelf.specs.Laws.{stored-put, stored-other}
-use Rattle.shelf.specs.Kept.{put-places}
+use Rattle.policy.specs.Whole.{held-written}
 
 -- a slot that is set reads as set, the others as before
 module _ (s : State) (room : HasRoom s) (i : ℕ) (h : Hold) where
   pub hold-here : i < slotCount → holdOf (withHold s i h) i ≡ h
-  hold-here l = ap (λ (x : Slot). x .hold) (getD-set-same (s .slots) i (record { hold = h }) freeSlot (omega (arith, room .slots)))
+  hold-here l = ap heldIn (getD-set-same (s .slots) i (slotWith h) 0 (omega (arith, room .slots))) ∙ held-written h
 
   pub hold-there : (j : ℕ) → (j ≡ i → ⊥) → holdOf (withHold s i h) j ≡ holdOf s j
-  hold-there j n = ap (λ (x : Slot). x .hold) (getD-set-other (s .slots) i j (record { hold = h }) freeSlot n)
+  hold-there j n = ap heldIn (getD-set-other (s .slots) i j (slotWith h) 0 n)
 
 -- x is put at place k of a present file, and y two places on
-module _ (s : State) (w : WellFormed s) (file : ℕ) (present : file < s .nfiles) (k : ℕ) (l : k + 2 < filePlaces) (x y : List ℕ) (hx : length x ≤ longest) (hy : length y ≤ longest) where
+module _ (s : State) (w : WellFormed s) (file : ℕ) (present : Present s file) (k : ℕ) (l : k + 2 < filePlaces)
+    (x y : List ℕ) (hx : length x ≤ longest) (hy : length y ≤ longest) where
   old : HasPlaces filePlaces (fileAt s file .lens) (fileAt s file .bytes)
   old = w .room .file-places file (omega (arith, w .file-count))
 
@@ -44,14 +44,16 @@ module _ (s : State) (w : WellFormed s) (file : ℕ) (present : file < s .nfiles
   pub pair-first : filePart (fileAt (withPair s file k x y) file) k ≡ x
   pair-first =
       ap (λ (f : File). filePart f k) now-file
-      ∙ put-there first (k + 2) l y hy k (omega arith) (λ e. omega arith) (omega (arith, getD-set-same (fileAt s file .lens) k (length x) 0 (omega (arith, old .lengths))))
+      ∙ put-there first (k + 2) l y hy k (omega arith) (λ e. omega arith)
+      (omega (arith, getD-set-same (fileAt s file .lens) k (length x) 0 (omega (arith, old .lengths))))
       ∙ put-here old k (omega arith) x hx
 
   pub pair-second : filePart (fileAt (withPair s file k x y) file) (k + 2) ≡ y
   pair-second = ap (λ (f : File). filePart f (k + 2)) now-file ∙ put-here first (k + 2) l y hy
 
   -- every other place of every file reads as before
-  pub pair-else : (i j : ℕ) → j < filePlaces → (i ≡ file → (j ≡ k → ⊥) × (j ≡ k + 2 → ⊥)) → filePart (fileAt (withPair s file k x y) i) j ≡ filePart (fileAt s i) j
+  pub pair-else : (i j : ℕ) → j < filePlaces → (i ≡ file → (j ≡ k → ⊥) × (j ≡ k + 2 → ⊥))
+      → filePart (fileAt (withPair s file k x y) i) j ≡ filePart (fileAt s i) j
   pair-else i j h apart = go (ℕ-discrete i file)
     where
       go : Dec (i ≡ file) → filePart (fileAt (withPair s file k x y) i) j ≡ filePart (fileAt s i) j
@@ -69,9 +71,11 @@ module _ (s : State) (w : WellFormed s) (file : ℕ) (present : file < s .nfiles
 pub record RowStored (s r : State) (file mode p q : ℕ) (x y : List ℕ) : Type 0 where
   pub first : filePart (fileAt r file) (filePlace mode p) ≡ x
   pub second : filePart (fileAt r file) (filePlace mode q) ≡ y
-  pub others : (i m c : ℕ) → m < modeCount → c < parts → (i ≡ file → m ≡ mode → (c ≡ p → ⊥) × (c ≡ q → ⊥)) → filePart (fileAt r i) (filePlace m c) ≡ filePart (fileAt s i) (filePlace m c)
+  pub others : (i m c : ℕ) → IsMode m → c < parts → (i ≡ file → m ≡ mode → (c ≡ p → ⊥) × (c ≡ q → ⊥))
+      → filePart (fileAt r i) (filePlace m c) ≡ filePart (fileAt s i) (filePlace m c)
 
-module _ (s : State) (w : WellFormed s) (file : ℕ) (present : file < s .nfiles) (mode : ℕ) (few : mode < modeCount) (x y : List ℕ) (hx : length x ≤ longest) (hy : length y ≤ longest) where
+module _ (s : State) (w : WellFormed s) (file : ℕ) (present : Present s file) (mode : ℕ) (few : IsMode mode)
+    (x y : List ℕ) (hx : length x ≤ longest) (hy : length y ≤ longest) where
   row-reads : (p : ℕ) → p < 2 → RowStored s (withPair s file (filePlace mode p) x y) file mode p (p + 2) x y
   row-reads p h = record {
     first = pair-first s w file present (filePlace mode p) (omega arith) x y hx hy;
@@ -95,13 +99,15 @@ module _ (s : State) (w : WellFormed s) (file : ℕ) (present : file < s .nfiles
   eg-reads = row-reads 1 (omega arith)
 
   -- so a change leaves every E and G as it is, and a bypass every T1 and T2
-  pub change-keeps : (i m : ℕ) → m < modeCount → (eOf (withT1T2 s file mode x y) i m ≡ eOf s i m) × (gOf (withT1T2 s file mode x y) i m ≡ gOf s i m)
+  pub change-keeps : (i m : ℕ) → IsMode m
+      → (eOf (withT1T2 s file mode x y) i m ≡ eOf s i m) × (gOf (withT1T2 s file mode x y) i m ≡ gOf s i m)
   change-keeps i m h = (
     t1t2-reads .others i m 1 h (omega arith) (λ _ _. ((λ e. omega arith), λ e. omega arith)),
     t1t2-reads .others i m 3 h (omega arith) (λ _ _. ((λ e. omega arith), λ e. omega arith)),
   )
 
-  pub bypass-keeps : (i m : ℕ) → m < modeCount → (t1Of (withEG s file mode x y) i m ≡ t1Of s i m) × (t2Of (withEG s file mode x y) i m ≡ t2Of s i m)
+  pub bypass-keeps : (i m : ℕ) → IsMode m
+      → (t1Of (withEG s file mode x y) i m ≡ t1Of s i m) × (t2Of (withEG s file mode x y) i m ≡ t2Of s i m)
   bypass-keeps i m h = (
     eg-reads .others i m 0 h (omega arith) (λ _ _. ((λ e. omega arith), λ e. omega arith)),
     eg-reads .others i m 2 h (omega arith) (λ _ _. ((λ e. omega arith), λ e. omega arith)),

@@ -1,15 +1,15 @@
 -- The state and what stands where in it (01, "Rows, roles and the test", "Requests"). Definitions only.
-use mathlib.Core.List.{List, [], _++_}
-use Prim.Native.Nat.{ℕ, _+_, _*_, _-_}
-use lib.ListN.{length, getD, take, drop, set, replicate}
+use mathlib.Core.Path.{_≡_}
+use mathlib.Core.List.{List, []}
+use Prim.Native.Nat.{ℕ, zero, suc, _+_, _*_, _<_}
+use lib.ListN.{length, getD, set, replicate}
 use Rattle.securon.specs.Sets.{securons}
 use Rattle.tree.specs.declared.Tree.{Tree}
+use Rattle.tree.specs.declared.Levels.{Levels}
 use Rattle.expression.specs.Bytes.{longest}
+use Rattle.shelf.specs.Shelf.{storedAt, putBytes}
 use Rattle.policy.specs.declared.Role.{Role}
 use Rattle.policy.specs.declared.File.{File}
-use Rattle.policy.specs.declared.Hold.{Hold}
-use Rattle.policy.specs.declared.Hold.the-variants.{Free}
-use Rattle.policy.specs.declared.Slot.{Slot}
 use Rattle.policy.specs.declared.State.{State}
 
 -- the most roles and the most files (01, "Image": 0 to 32); sixteen slots
@@ -25,6 +25,9 @@ slotCount = 16
 -- modes: 0 Read, 1 Write, 2 Execute, 3 Detect, 4 Change Protection
 abbrev pub modeCount : ℕ
 modeCount = 5
+
+abbrev pub IsMode : ℕ → Type 0
+IsMode mode = mode < modeCount
 
 abbrev pub read : ℕ
 read = 0
@@ -88,15 +91,12 @@ gPlace mode = filePlace mode 3
 abbrev pub filePlaces : ℕ
 filePlaces = parts * modeCount
 
--- role i, file i, and what slot i holds. (Past the last there is nothing)
+-- role i and file i. (Past the last there is nothing)
 abbrev pub offRole : Role
 offRole = record { lens = []; bytes = [] }
 
 abbrev pub offFile : File
 offFile = record { lens = []; bytes = [] }
-
-abbrev pub freeSlot : Slot
-freeSlot = record { hold = Free }
 
 abbrev pub roleAt : State → ℕ → Role
 roleAt s i = getD (s .roles) i offRole
@@ -104,8 +104,41 @@ roleAt s i = getD (s .roles) i offRole
 abbrev pub fileAt : State → ℕ → File
 fileAt s i = getD (s .files) i offFile
 
+-- which roles and which files are there: those below the count
+abbrev pub RolePresent : State → ℕ → Type 0
+RolePresent s role = role < s .nroles
+
+abbrev pub Present : State → ℕ → Type 0
+Present s file = file < s .nfiles
+
+-- a slot is free or holds a role number
+pub data Hold : Type 0 where
+  Free : Hold
+  By : ℕ → Hold
+
+-- a slot is kept as a number: 0 where it is free, k + 1 where it holds role k
+abbrev pub heldIn : ℕ → Hold
+heldIn zero = Free
+heldIn (suc k) = By k
+
+abbrev pub slotWith : Hold → ℕ
+slotWith Free = 0
+slotWith (By k) = suc k
+
+-- what slot i holds. (Past the last there is nothing)
 abbrev pub holdOf : State → ℕ → Hold
-holdOf s i = getD (s .slots) i freeSlot .hold
+holdOf s i = heldIn (getD (s .slots) i 0)
+
+abbrev pub Taken : State → ℕ → Type 0
+Taken s slot = holdOf s slot ≡ Free → ⊥
+
+-- the role of a session: the one that its slot holds. (Of a free slot, 0: there is no session)
+abbrev pub roleIn : Hold → ℕ
+roleIn Free = 0
+roleIn (By k) = k
+
+abbrev pub roleOf : State → ℕ → ℕ
+roleOf s slot = roleIn (holdOf s slot)
 
 -- the expression at place k of a role, of a file
 abbrev pub rolePart : Role → ℕ → List ℕ
@@ -143,6 +176,10 @@ t2Of s file mode = filePart (fileAt s file) (t2Place mode)
 abbrev pub gOf : State → ℕ → ℕ → List ℕ
 gOf s file mode = filePart (fileAt s file) (gPlace mode)
 
+-- the levels of what is no tree
+abbrev pub noLevels : Levels
+noLevels = record { of = replicate securons 0; depth = record { 0 = 0 } }
+
 -- the fresh state has the root alone, no role, no file, all slots free; unused room is zero
 abbrev pub noRole : Role
 noRole = record { lens = replicate rolePlaces 0; bytes = replicate (longest * rolePlaces) 0 }
@@ -160,7 +197,7 @@ freshState = record {
   roles = replicate mostRoles noRole;
   nfiles = 0;
   files = replicate mostFiles noFile;
-  slots = replicate slotCount freeSlot;
+  slots = replicate slotCount (slotWith Free);
 }
 
 -- the same state with one field being another
@@ -179,12 +216,12 @@ setNfiles s x = record { tree = s .tree; nroles = s .nroles; roles = s .roles; n
 abbrev pub setFiles : State → List File → State
 setFiles s x = record { tree = s .tree; nroles = s .nroles; roles = s .roles; nfiles = s .nfiles; files = x; slots = s .slots }
 
-abbrev pub setSlots : State → List Slot → State
+abbrev pub setSlots : State → List ℕ → State
 setSlots s x = record { tree = s .tree; nroles = s .nroles; roles = s .roles; nfiles = s .nfiles; files = s .files; slots = x }
 
 -- the same state with slot i holding h
 abbrev pub withHold : State → ℕ → Hold → State
-withHold s i h = setSlots s (set (s .slots) i (record { hold = h }))
+withHold s i h = setSlots s (set (s .slots) i (slotWith h))
 
 -- the same state with another role i, another file i
 abbrev pub withRole : State → ℕ → Role → State
@@ -193,10 +230,7 @@ withRole s i r = setRoles s (set (s .roles) i r)
 abbrev pub withFile : State → ℕ → File → State
 withFile s i f = setFiles s (set (s .files) i f)
 
--- the role, the file with x stored at place k
-abbrev pub putRole : Role → ℕ → List ℕ → Role
-putRole r k x = record { lens = set (r .lens) k (length x); bytes = putBytes (r .bytes) k x }
-
+-- the file with x stored at place k
 abbrev pub putFile : File → ℕ → List ℕ → File
 putFile f k x = record { lens = set (f .lens) k (length x); bytes = putBytes (f .bytes) k x }
 

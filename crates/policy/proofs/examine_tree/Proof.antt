@@ -1,6 +1,5 @@
 -- `policy::examine_tree` meets its contract: the levels are had of a tree that is fine. Assumes nothing.
 use mathlib.Core.Path.{refl}
-use mathlib.Core.Bool.{false≢true}
 use native.Mathlib.Omega.{arith}
 use Rattle.logic.specs.Iff.{not-then-false, no-iff, yes-iff}
 use borrow.Author.Needs.{needs}
@@ -19,14 +18,16 @@ returns c = record {
   some = c .before .before .tree-fine .ensures .0 (c .before .if1 .taken) .is-tree .count .0;
   count = λ _. refl;
   levels = λ _. c .levels .ensures;
+  no-levels = λ n. absurd (n (c .before .before .tree-fine .ensures .0 (c .before .if1 .taken)));
 }
 
 returns-2 : tie.Need-returns-2
 returns-2 c = record {
   says = no-iff (not-then-false (c .before .tree-fine .ensures) (c .if1 .left));
   some = omega arith;
-  count = λ e. absurd (false≢true e);
-  levels = λ e. absurd (false≢true e);
+  count = λ f. absurd (not-then-false (c .before .tree-fine .ensures) (c .if1 .left) f);
+  levels = λ f. absurd (not-then-false (c .before .tree-fine .ensures) (c .if1 .left) f);
+  no-levels = λ _. refl;
 }
 
 pub examine-tree-spec : {M : Type 1} → statement M

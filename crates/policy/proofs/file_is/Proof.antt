@@ -1,35 +1,24 @@
--- `policy::file_is` meets its contract: the test that it takes by its use, of a shelf that has as many places as the type says. Assumes nothing.
+-- `policy::file_is` meets its contract: the test of a shelf that has as many places as the type says. Assumes nothing.
 use mathlib.Core.Path.{_≡_}
 use Prim.Native.Nat.{_*_}
 use lib.ListN.{length}
-use Rattle.logic.specs.Iff.{iff-trans}
 use Rattle.expression.specs.Bytes.{longest}
 use Rattle.policy.specs.State.{filePlaces}
 use Rattle.policy.specs.Fine.{fileShelves}
-use Rattle.policy.proofs.Places.{one-used, one-unused}
+use Rattle.policy.proofs.Places.{one-is}
 use borrow.Author.Needs.{needs}
 use Rattle.policy.proofs.file_is.Statement.{statement}
 use Rattle.policy.proofs.file_is.Tie as tie
 
-file-fine-requires : tie.Need-file-fine-requires
-file-fine-requires c κs = search needs
+used-or-zero-requires : tie.Need-used-or-zero-requires
+used-or-zero-requires c κs = search needs
 
 returns : tie.Need-returns
 returns c =
-    let a = c .before .before .args in
-    let places : length (a .f .lens) ≡ filePlaces = search needs in
-    let long : length (a .f .bytes) ≡ longest * filePlaces = search needs in
-    iff-trans (c .file-fine .ensures) (one-used fileShelves (a .f) (record { lengths = places; room = long }) (c .before .if1 .taken))
-
-file-zero-requires : tie.Need-file-zero-requires
-file-zero-requires c κs = search needs
-
-returns-2 : tie.Need-returns-2
-returns-2 c =
-    let a = c .before .before .args in
-    let places : length (a .f .lens) ≡ filePlaces = search needs in
-    let long : length (a .f .bytes) ≡ longest * filePlaces = search needs in
-    iff-trans (c .file-zero .ensures) (one-unused fileShelves (a .f) (record { lengths = places; room = long }) (c .before .if1 .left))
+    let a = c .before .before .before .before .before .before .args in
+    let places : length (a .t1 .lens) ≡ filePlaces = search needs in
+    let long : length (a .t1 .bytes) ≡ longest * filePlaces = search needs in
+    one-is fileShelves (a .t1) (record { lengths = places; room = long }) (c .used-or-zero .ensures)
 
 pub file-is-spec : {M : Type 1} → statement M
-file-is-spec = tie.close (tie.spec file-fine-requires returns file-zero-requires returns-2)
+file-is-spec = tie.close (tie.spec used-or-zero-requires returns)

@@ -1,25 +1,22 @@
--- `policy::number_held` meets its contract: a free slot names no role, and another names its own. Assumes nothing.
-use mathlib.Core.Path.{_≡_}
-use Prim.Native.Nat.{ℕ}
+-- `policy::number_held` meets its contract: a slot that is not free holds the role before its number. Assumes nothing.
+use mathlib.Core.Path.{_∙_}
 use native.Mathlib.Omega.{arith}
+use Rattle.policy.proofs.Slots.{held-role}
 use borrow.Author.Needs.{needs}
 use Rattle.policy.proofs.number_held.Statement.{statement}
 use Rattle.policy.proofs.number_held.Tie as tie
 
-enum-told : tie.Need-enum-told
-enum-told c = search needs
+returns : tie.Need-returns
+returns c = search needs
 
-enum-known-hold : tie.Need-enum-known-hold
-enum-known-hold c = search needs
+sub-wide : tie.Need-sub-wide
+sub-wide c = search needs
 
 wide-requires : tie.Need-wide-requires
 wide-requires c κs = search needs
 
-returns : tie.Need-returns
-returns c = λ k e. let z : _≡_ {A = ℕ} 0 1 = cc (e, c .enum-told .given .1) in absurd (omega arith)
-
 returns-2 : tie.Need-returns-2
-returns-2 c = λ k e. cc (e, c .before .before .hold .given .1, c .wide .ensures)
+returns-2 c = c .wide .ensures ∙ held-role (c .before .before .args .slot) (omega arith)
 
 pub number-held-spec : {M : Type 1} → statement M
-number-held-spec = tie.close (tie.spec enum-told enum-known-hold wide-requires returns returns-2)
+number-held-spec = tie.close (tie.spec returns sub-wide wide-requires returns-2)

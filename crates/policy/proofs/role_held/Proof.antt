@@ -1,45 +1,41 @@
--- `policy::role_held` meets its contract: the slot asked for is the one looked at, and the number it names the one given, where both are in range. Assumes nothing.
-use mathlib.Core.Path.{ap, _∙_}
+-- `policy::role_held` meets its contract: a slot past the last is free; of another its number is taken, where it is in range. Assumes nothing.
+use mathlib.Core.Path.{refl, sym, ap, _∙_}
 use Prim.Native.Nat.{ℕ}
 use native.Mathlib.Omega.{arith}
-use lib.ListN.{getD}
-use Rattle.policy.specs.State.{freeSlot}
+use lib.ListN.{length, getD, List·getD-eq-default}
+use mathlib.Core.Path.{_≡_}
+use Rattle.policy.specs.State.{slotCount, heldIn, roleIn}
 use borrow.Author.Needs.{needs}
 use Rattle.policy.proofs.role_held.Statement.{statement}
 use Rattle.policy.proofs.role_held.Tie as tie
 
-below-requires : tie.Need-below-requires
-below-requires c κs = search needs
+returns : tie.Need-returns
+returns c =
+    let a = c .before .args in
+    let long : length (a .t1) ≡ slotCount = search needs in
+    let none : getD (a .t1) (a .slot) 0 ≡ 0 = List·getD-eq-default (a .t1) 0 {n = a .slot} (omega (arith, c .if1 .taken)) in
+    let free = ap (λ (x : ℕ). roleIn (heldIn x)) none in
+    record { within = omega arith; is = λ _. sym free; else = λ h. refl }
 
-mul-its : tie.Need-mul-its
-mul-its c = omega (arith, c .below .ensures .0)
-
-array-copy-out-its : tie.Need-array-copy-out-its
-array-copy-out-its c = omega (arith, c .below .ensures .0)
+array-read-number-held : tie.Need-array-read-number-held
+array-read-number-held c = search needs
 
 number-held-requires : tie.Need-number-held-requires
 number-held-requires c κs = search needs
 
-below-requires-2 : tie.Need-below-requires-2
-below-requires-2 c κs = search needs
+below-requires : tie.Need-below-requires
+below-requires c κs = search needs
 
-returns : tie.Need-returns
-returns c = record {
-  within = c .below2 .ensures .0;
-  is = λ k l h m.
-      let a = c .before .before .before .before .args in
-      let here = ap (λ (i : ℕ). getD (a .t1) i freeSlot .hold) (c .before .before .before .below .ensures .1 l) in
-      let named = c .before .number-held .ensures k (here ∙ h) in
-      c .below2 .ensures .1 (omega arith) ∙ named;
-}
+returns-2 : tie.Need-returns-2
+returns-2 c =
+    let held = c .before .number-held .ensures in
+    record {
+      within = c .below .ensures .0;
+      is = λ h. c .below .ensures .1 (omega (arith, held)) ∙ held;
+      else = λ h. c .below .ensures .2 (omega (arith, held));
+    }
 
 pub role-held-spec : {M : Type 1} → statement M
 role-held-spec =
     tie.close
-    (tie.spec
-    below-requires
-    mul-its
-    array-copy-out-its
-    number-held-requires
-    below-requires-2
-    returns)
+    (tie.spec returns array-read-number-held number-held-requires below-requires returns-2)

@@ -6,13 +6,13 @@ use borrow.Author.Needs.{needs}
 use lib.ListN.{length, getD}
 use Rattle.logic.specs.Every.{Flag, flag-none, flag-and, flag-end}
 use Rattle.logic.specs.Iff.{iff-trans}
-use Rattle.policy.specs.State.{slotCount, freeSlot}
+use Rattle.policy.specs.State.{slotCount}
 use Rattle.policy.specs.Fine.{SlotIs}
 use Rattle.policy.proofs.slots_are.Statement.{statement}
 use Rattle.policy.proofs.slots_are.Tie as tie
 
 abbrev Inv-loop : tie.InvT-loop
-Inv-loop count slots ok₀ i₀ ok i = (i ≤ slotCount) × Flag (λ (j : ℕ). SlotIs count (getD slots j freeSlot)) i ok
+Inv-loop count slots ok₀ i₀ ok i = (i ≤ slotCount) × Flag (λ (j : ℕ). SlotIs count (getD slots j 0)) i ok
 
 abbrev μ-loop : tie.MeasureT-loop
 μ-loop count slots ok₀ i₀ ok i = slotCount - i
@@ -20,11 +20,8 @@ abbrev μ-loop : tie.MeasureT-loop
 loop-holds : tie.Need-loop-holds Inv-loop μ-loop
 loop-holds c = (search needs, flag-none _)
 
-mul-s : tie.Need-mul-s Inv-loop μ-loop
-mul-s c = omega arith
-
-array-copy-out-s : tie.Need-array-copy-out-s Inv-loop μ-loop
-array-copy-out-s c = omega arith
+array-read-slot-is : tie.Need-array-read-slot-is Inv-loop μ-loop
+array-read-slot-is c = search needs
 
 slot-is-requires : tie.Need-slot-is-requires Inv-loop μ-loop
 slot-is-requires c κs = search needs
@@ -36,7 +33,7 @@ loop-less : tie.Need-loop-less Inv-loop μ-loop
 loop-less c = omega arith
 
 loop-again : tie.Need-loop-again Inv-loop μ-loop
-loop-again c = (omega arith, flag-and (c .before .before .before .loop .inv .1) (c .slot-is .ensures))
+loop-again c = (omega arith, flag-and (c .before .before .loop .inv .1) (c .slot-is .ensures))
 
 returns : tie.Need-returns Inv-loop μ-loop
 returns c =
@@ -50,8 +47,7 @@ slots-are-spec =
     Inv-loop
     μ-loop
     loop-holds
-    mul-s
-    array-copy-out-s
+    array-read-slot-is
     slot-is-requires
     add-i
     loop-less

@@ -1,4 +1,4 @@
--- `policy::State::well_formed` meets its contract: a flag says of every role passed that it is fine or zero, another of every file; with the tree, the counts and the slots they make the test. The measures are what is left of each. Assumes nothing.
+-- `policy::State::examine` meets its contract: a flag says of every role passed that it is fine or zero, another of every file; with the tree, the counts and the slots they make the test. The measures are what is left of each. Assumes nothing.
 use mathlib.Core.Path.{_≡_, refl, sym, ap, _∙_}
 use Prim.Native.Nat.{ℕ, _≤_, _-_}
 use native.Mathlib.Omega.{arith}
@@ -9,9 +9,9 @@ use Rattle.logic.specs.Every.{Flag, flag-none, flag-and}
 use Rattle.policy.specs.State.{mostRoles, mostFiles, offRole, offFile, roleAt}
 use Rattle.policy.specs.Fine.{OneIs, roleShelves, fileShelves}
 use Rattle.policy.proofs.Walks.{walked}
-use Rattle.policy.proofs.Test.{tree-said, tested}
-use Rattle.policy.proofs.State.well_formed.Statement.{statement}
-use Rattle.policy.proofs.State.well_formed.Tie as tie
+use Rattle.policy.proofs.Test.{tested}
+use Rattle.policy.proofs.State.examine.Statement.{statement}
+use Rattle.policy.proofs.State.examine.Tie as tie
 
 abbrev Inv-loop : tie.InvT-loop
 Inv-loop slot file tree grown levels depth n nroles nfiles slots roles files rok₀ i₀ rok i =
@@ -101,22 +101,24 @@ returns c =
     let fs : length (s .files) ≡ mostFiles = sym (length-map (s .files) _) ∙ c .before .before .before .before .before .before .before .before .before .before .before .before .before .before .before .before .before .good .0 .1 .1 .1 .1 .1 .1 .0 .1 .0 .1 in
     let roles = walked roleShelves (s .roles) rs (c .before .before .before .before .before .before .before .before .before .loop .inv .1) (omega arith) in
     let files = walked fileShelves (s .files) fs (c .before .before .before .before .before .before .before .loop2 .inv .1) (omega arith) in
-    let all = tested s _ t roles files (c .before .before .before .before .before .slots-are .ensures) in
+    let held = c .before .before .before .before .role-held .ensures in
     record {
-      says = all;
-      levels = λ e. t .levels (tree-said s _ t (all .0 e));
+      says = tested s _ t roles files (c .before .before .before .before .before .slots-are .ensures);
+      levels = t .levels;
+      no-levels = t .no-levels;
       tree-is = refl;
       nroles-is = refl;
       nfiles-is = refl;
       slots-is = refl;
-      role-is = λ k l h m. ap (roleAt s) (c .before .before .before .before .role-held .ensures .is k l h m);
-      within = c .before .before .below .ensures .0;
+      role-is = λ h. ap (roleAt s) (held .is h);
+      role-else = λ h. ap (roleAt s) (held .else h);
       at-is = c .before .before .below .ensures .1;
+      at-else = c .before .before .below .ensures .2;
       file-is = refl;
     }
 
-pub well-formed-spec : {M : Type 1} → statement M
-well-formed-spec =
+pub examine-spec : {M : Type 1} → statement M
+examine-spec =
     tie.close
     (tie.spec
     Inv-loop
