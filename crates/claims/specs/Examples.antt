@@ -20,7 +20,7 @@ use Rattle.policy.specs.State.{read, write, changeProtection, holdOf, withHold,
 use Rattle.policy.specs.WellFormed.{WellFormed}
 use Rattle.policy.specs.Kept.{by-kept, free-kept}
 use Rattle.policy.specs.Reads.{hold-here, eg-reads}
-use Rattle.gate.specs.Rules.{PassesRow, Passes, Mediates, Covers}
+use Rattle.rules.specs.Rules.{PassesRow, Passes, Mediates, Covers}
 use Rattle.claims.specs.Trace.{begin, end, ask, bypass, Step, Event, Run, none, next, Quiet, Move, PassesIndelible}
 use Rattle.claims.specs.Steps.{granted, done, begin-step, end-step, ask-step, bypass-step}
 use Rattle.claims.specs.MoveLaws.{move-confines}

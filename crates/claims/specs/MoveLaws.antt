@@ -11,7 +11,7 @@ use Rattle.expression.specs.Bytes.{SET}
 use Rattle.policy.specs.declared.Role.{Role}
 use Rattle.policy.specs.declared.State.{State}
 use Rattle.policy.specs.State.{read, write, eOf, gOf, m1Of, m2Of, rolePart, m1Place, m2Place, offRole}
-use Rattle.gate.specs.Rules.{Mediates}
+use Rattle.rules.specs.Rules.{Mediates}
 use Rattle.gate.specs.Requests.{Session, Asks, askConditions}
 use Rattle.answer.specs.Lists.{granted-all}
 use Rattle.gate.specs.Laws.{one-role}

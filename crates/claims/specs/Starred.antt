@@ -7,7 +7,7 @@ use Rattle.expression.specs.Expression.{one, term, _AND_}
 use Rattle.expression.specs.Bytes.{bytes, SET}
 use Rattle.expression.specs.Starred.{park, Case, Says, Means, cases}
 use Rattle.policy.specs.State.{read, write}
-use Rattle.gate.specs.Rules.{PassesRow, MediatesRow}
+use Rattle.rules.specs.Rules.{PassesRow, MediatesRow}
 
 -- a Read or a Write, all but these parts empty: V+, E of the row asked for, M1, and E of the file's Read row; whether it is granted or gets 15
 pub record AskCase : Type 0 where

@@ -12,7 +12,7 @@ use Rattle.expression.specs.Unique.{one-expression}
 use Rattle.expression.specs.Starred.{park, Case, cases}
 use Rattle.expression.specs.Starred as expression-starred
 use Rattle.expression.specs.StarredLaws.{starred}
-use Rattle.gate.specs.Rules.{PassesRow}
+use Rattle.rules.specs.Rules.{PassesRow}
 use Rattle.claims.specs.Starred.{Starred, meaning, asked, asks, table, AllMean, oneThree, oneAlone}
 
 join : (xs ys : List Starred) → AllMean xs → AllMean ys → AllMean (xs ++ ys)

@@ -11,7 +11,7 @@ use Rattle.policy.specs.declared.Hold.the-variants.{Free, By}
 use Rattle.policy.specs.declared.State.{State}
 use Rattle.policy.specs.State.{slotCount, modeCount, changeProtection, holdOf, withHold, withEG}
 use Rattle.policy.specs.WellFormed.{WellFormed}
-use Rattle.gate.specs.Rules.{Passes, Mediates, Covers}
+use Rattle.rules.specs.Rules.{Passes, Mediates, Covers}
 use Rattle.claims.specs.Trace.{Request, begin, end, ask, bypass, Step, Event}
 
 -- the answer of a grant

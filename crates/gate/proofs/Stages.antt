@@ -33,7 +33,8 @@ use Rattle.gate.specs.Requests.{Taken, Session, sessionConditions, Answe
 use Rattle.gate.specs.Effects.{effectOf, after, Tells}
 use Rattle.answer.specs.Lists.{refuses, granted-all, refused-first, then-second}
 use Rattle.gate.specs.Laws.{one-role}
-use Rattle.gate.specs.Parts.{AtHand, StoredIs}
+use Rattle.rules.specs.AtHand.{AtHand}
+use Rattle.gate.specs.Parts.{StoredIs}
 
 -- a slot that is not free holds a role, and one that is free holds none
 pub some-role : (h : Hold) → (h ≡ Free → ⊥) → (role : ℕ) × (h ≡ By role)

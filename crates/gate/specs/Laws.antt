@@ -21,7 +21,7 @@ use Rattle.policy.specs.WellFormed.{WellFormed}
 use Rattle.policy.specs.Kept.{by-kept, free-kept, t1t2-kept, eg-kept}
 use Rattle.policy.specs.Reads.{hold-here}
 use Rattle.gate.specs.declared.Outcome.{Outcome}
-use Rattle.gate.specs.Rules.{Covers}
+use Rattle.rules.specs.Rules.{Covers}
 use Rattle.gate.specs.Requests.{Session, beginConditions, endConditions, rowConditions, askConditions, second, Added, inOrder, expressionConditions, changeConditions, bypassConditions, Does, Begins, Ends, Asks, Changes, Bypasses}
 use Rattle.answer.specs.Lists.{refuses, granted-all}
 

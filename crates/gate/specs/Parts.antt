@@ -17,37 +17,7 @@ use Rattle.policy.specs.declared.Examined.{Examined}
 use Rattle.policy.specs.WellFormed.{RoleInOrder, FileInOrder, Examines}
 use Rattle.gate.specs.declared.Effect.{Effect}
 use Rattle.gate.specs.Effects.{effectOf}
-use Rattle.gate.specs.Rules.{PassesRow, MediatesRow, CoversRow}
-
--- a tree with its levels, and a role and a file in order over it
-pub record AtHand (t : Tree) (l : Levels) (r : Role) (f : File) : Type 0 where
-  pub ready : Ready t l
-  pub role : RoleInOrder (t .n) (l .depth .0) r
-  pub file : FileInOrder (t .n) (l .depth .0) f
-
--- the positive and the negative sense of the row test
-abbrev pub PlusPasses : Tree → Role → File → ℕ → Type 0
-PlusPasses t r f mode =
-    MeetsT1 t (SET t (rolePart r (vPlusPlace mode))) (filePart f (t1Place mode))
-    × (SET t (filePart f (ePlace mode)) ⊆ SET t (rolePart r (vPlusPlace mode)))
-
-abbrev pub MinusPasses : Tree → Role → File → ℕ → Type 0
-MinusPasses t r f mode =
-    (MeetsT2 t (SET t (rolePart r (vMinusPlace mode))) (filePart f (t2Place mode)) → ⊥)
-    × Apart (SET t (rolePart r (vMinusPlace mode))) (SET t (filePart f (gPlace mode)))
-
-abbrev pub RolePasses : Tree → Role → File → ℕ → Type 0
-RolePasses t r f mode =
-    PassesRow t (SET t (rolePart r (vPlusPlace mode))) (SET t (rolePart r (vMinusPlace mode)))
-    (filePart f (t1Place mode)) (filePart f (ePlace mode)) (filePart f (t2Place mode)) (filePart f (gPlace mode))
-
-abbrev pub RoleMediates : Tree → Role → File → ℕ → Type 0
-RoleMediates t r f mode =
-    MediatesRow mode (SET t (rolePart r m1Place)) (SET t (rolePart r m2Place)) (SET t (filePart f (ePlace read))) (SET t (filePart f (gPlace read)))
-
-abbrev pub RoleCovers : Tree → Role → File → ℕ → List ℕ → List ℕ → Type 0
-RoleCovers t r f mode e g =
-    CoversRow (SET t (rolePart r bPlace)) (SET t (filePart f (ePlace mode))) (SET t e) (SET t (filePart f (gPlace mode))) (SET t g)
+use Rattle.rules.specs.Rules.{PassesRow, MediatesRow, CoversRow}
 
 -- some state gave this to its test, for that slot and that file
 abbrev pub Seen : ℕ → ℕ → Examined → Type 0

@@ -14,7 +14,7 @@ use Rattle.policy.specs.declared.State.{State}
 use Rattle.policy.specs.State.{slotCount, modeCount, changeProtection, holdOf, withHold, withT1T2, withEG}
 use Rattle.policy.specs.WellFormed.{WellFormed}
 use Rattle.gate.specs.declared.Outcome.{Outcome}
-use Rattle.gate.specs.Rules.{Passes, Mediates, Covers}
+use Rattle.rules.specs.Rules.{Passes, Mediates, Covers}
 
 -- the slot holds a role
 abbrev pub Taken : State → ℕ → Type 0

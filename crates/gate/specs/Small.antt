@@ -16,7 +16,7 @@ use Rattle.expression.specs.declared.Kind.{Kind}
 use Rattle.expression.specs.declared.Kind.the-variants.{Privilege, Protection}
 use Rattle.expression.specs.Judge.{WrongOver}
 use Rattle.policy.specs.declared.State.{State}
-use Rattle.gate.specs.Rules.{Covers}
+use Rattle.rules.specs.Rules.{Covers}
 use Rattle.gate.specs.Requests.{Session, Answers, beginConditions, endConditions, askConditions, storeConditions, changeConditions, bypassConditions, second, Added}
 
 -- whether every number of the list is below m

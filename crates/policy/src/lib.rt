@@ -12,8 +12,7 @@ ghost use Prim.Native.Nat.{_+_, _<_, _≤_};
 ghost use lib.ListN.{length};
 ghost use Rattle.expression.specs.Bytes.{longest};
 ghost use Rattle.tree.specs.Tree.{IsTree};
-ghost use Rattle.policy.specs.State.{IsMode, mostRoles, filePlaces, senses, parts, rolePlace, filePlace, noRole, noFile, noLevels, freshState};
-ghost use Rattle.policy.specs.State.{Free, By, heldIn, slotWith, roleIn, putPair};
+ghost use Rattle.policy.specs.State.{IsMode, mostRoles, filePlaces, senses, parts, rolePlace, filePlace, noRole, noFile, noLevels, freshState, Free, By, heldIn, slotWith, roleIn, putPair};
 ghost use Rattle.policy.specs.WellFormed.{TreeFine, Examines};
 ghost use Rattle.policy.specs.Fine.{roleShelves, fileShelves, OneIs, SlotIs, SlotsAre, RoleHeld, TreeExamined};
 

@@ -7,9 +7,8 @@ use Rattle.answer.specs.Numbers.{mediatingUnfit}
 use Rattle.answer.specs.Answers.{Condition, must, AllHold}
 use Rattle.policy.specs.declared.State.{State}
 use Rattle.policy.specs.WellFormed.{Examines}
-use Rattle.gate.specs.Rules.{Mediates}
+use Rattle.rules.specs.Rules.{Mediates, RoleMediates}
 use Rattle.gate.specs.Requests.{Session, rowConditions}
-use Rattle.gate.specs.Parts.{RoleMediates}
 use Rattle.gate.proofs.Stages.{at-hand, lacks, owns, shown, stands, last-refuses, last-grants}
 use borrow.Author.Needs.{needs}
 use Rattle.gate.proofs.ask_answer.Statement.{statement}

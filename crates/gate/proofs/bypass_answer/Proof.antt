@@ -8,9 +8,8 @@ use Rattle.answer.specs.Answers.{Condition, must, AllHold}
 use Rattle.expression.specs.declared.Kind.the-variants.{Privilege}
 use Rattle.policy.specs.declared.State.{State}
 use Rattle.policy.specs.WellFormed.{Examines}
-use Rattle.gate.specs.Rules.{Covers}
+use Rattle.rules.specs.Rules.{Covers, RoleCovers}
 use Rattle.gate.specs.Requests.{Session, storeConditions}
-use Rattle.gate.specs.Parts.{RoleCovers}
 use Rattle.gate.proofs.Stages.{right-over, at-hand, lacks, owns, shown, stands, last-refuses, last-grants}
 use borrow.Author.Needs.{needs}
 use Rattle.gate.proofs.bypass_answer.Statement.{statement}

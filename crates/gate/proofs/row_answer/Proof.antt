@@ -11,9 +11,8 @@ use Rattle.logic.specs.Iff.{not-then-false}
 use Rattle.policy.specs.declared.State.{State}
 use Rattle.policy.specs.WellFormed.{Examines}
 use Rattle.policy.specs.State.{modeCount}
-use Rattle.gate.specs.Rules.{Passes}
+use Rattle.rules.specs.Rules.{Passes, RolePasses}
 use Rattle.gate.specs.Requests.{Session, sessionConditions}
-use Rattle.gate.specs.Parts.{RolePasses}
 use Rattle.gate.proofs.Stages.{at-hand, lacks, owns, shown, stands}
 use borrow.Author.Needs.{needs}
 use Rattle.gate.proofs.row_answer.Statement.{statement}

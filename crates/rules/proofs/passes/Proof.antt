@@ -1,10 +1,10 @@
--- `gate::row_passes` meets its contract: the two senses are the four facts. Assumes nothing.
+-- `rules::passes` meets its contract: the two senses are the four facts. Assumes nothing.
 use borrow.Author.Tests.{not-true, not-false}
 use Rattle.logic.specs.Iff.{iff-trans, not-then-false}
-use Rattle.gate.proofs.Row.{no-iff}
+use Rattle.rules.proofs.Row.{no-iff}
 use borrow.Author.Needs.{needs}
-use Rattle.gate.proofs.row_passes.Statement.{statement}
-use Rattle.gate.proofs.row_passes.Tie as tie
+use Rattle.rules.proofs.passes.Statement.{statement}
+use Rattle.rules.proofs.passes.Tie as tie
 
 plus-passes-requires : tie.Need-plus-passes-requires
 plus-passes-requires c κs = search needs
@@ -23,5 +23,5 @@ returns-2 c =
       λ w. (w .not-t2, w .apart-g),
     )
 
-pub row-passes-spec : {M : Type 1} → statement M
-row-passes-spec = tie.close (tie.spec plus-passes-requires returns minus-passes-requires returns-2)
+pub passes-spec : {M : Type 1} → statement M
+passes-spec = tie.close (tie.spec plus-passes-requires returns minus-passes-requires returns-2)

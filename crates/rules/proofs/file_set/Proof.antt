@@ -1,12 +1,12 @@
--- `gate::file_set` meets its contract: what stands at the place is in order, and its SET is taken. Assumes nothing.
+-- `rules::file_set` meets its contract: what stands at the place is in order, and its SET is taken. Assumes nothing.
 use mathlib.Core.Path.{subst}
 use mathlib.Core.List.{List}
 use Prim.Native.Nat.{ℕ}
 use Rattle.securon.specs.Sets.{_≐_, marked}
 use Rattle.expression.specs.Bytes.{SET}
 use borrow.Author.Needs.{needs}
-use Rattle.gate.proofs.file_set.Statement.{statement}
-use Rattle.gate.proofs.file_set.Tie as tie
+use Rattle.rules.proofs.file_set.Statement.{statement}
+use Rattle.rules.proofs.file_set.Tie as tie
 
 stored-requires : tie.Need-stored-requires
 stored-requires c κs = search needs

@@ -1,11 +1,11 @@
--- `gate::plus_passes` meets its contract: the set at hand has V+'s members, and the two tests are the two facts. Assumes nothing.
+-- `rules::plus_passes` meets its contract: the set at hand has V+'s members, and the two tests are the two facts. Assumes nothing.
 use native.Mathlib.Omega.{arith}
 use borrow.Author.Tests.{not-true, not-false}
 use Rattle.logic.specs.Iff.{iff-trans, not-then-false}
-use Rattle.gate.proofs.Row.{no-iff, same-t1, same-part}
+use Rattle.rules.proofs.Row.{no-iff, same-t1, same-part}
 use borrow.Author.Needs.{needs}
-use Rattle.gate.proofs.plus_passes.Statement.{statement}
-use Rattle.gate.proofs.plus_passes.Tie as tie
+use Rattle.rules.proofs.plus_passes.Statement.{statement}
+use Rattle.rules.proofs.plus_passes.Tie as tie
 
 role-place-requires : tie.Need-role-place-requires
 role-place-requires c κs = search needs

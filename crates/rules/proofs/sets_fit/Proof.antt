@@ -1,9 +1,9 @@
--- `gate::sets_fit` meets its contract: each mode asks for its own two parts, or for nothing. Assumes nothing.
+-- `rules::sets_fit` meets its contract: each mode asks for its own two parts, or for nothing. Assumes nothing.
 use Rattle.logic.specs.Iff.{and-iff, iff-trans}
-use Rattle.gate.proofs.Row.{read-fits, write-fits, other-fits}
+use Rattle.rules.proofs.Row.{read-fits, write-fits, other-fits}
 use borrow.Author.Needs.{needs}
-use Rattle.gate.proofs.sets_fit.Statement.{statement}
-use Rattle.gate.proofs.sets_fit.Tie as tie
+use Rattle.rules.proofs.sets_fit.Statement.{statement}
+use Rattle.rules.proofs.sets_fit.Tie as tie
 
 part-requires : tie.Need-part-requires
 part-requires c κs = search needs

@@ -18,7 +18,7 @@ use Rattle.shelf.specs.Shelf.{PartInOrder}
 use Rattle.policy.specs.WellFormed.{FileInOrder}
 use Rattle.shelf.specs.Kept.{odd-kind}
 use Rattle.policy.specs.Parts.{file-by-place}
-use Rattle.gate.specs.Rules.{MediatesRow, EntersOrLeaves}
+use Rattle.rules.specs.Rules.{MediatesRow, EntersOrLeaves}
 
 -- a test that says no, where the fact does not hold
 pub no-iff : {A : Type 0} → (A → ⊥) → (false ≡ true) ↔ A

@@ -1,10 +1,10 @@
--- `gate::mediates` meets its contract: the sets at hand have the members of those that are meant. Assumes nothing.
+-- `rules::mediates` meets its contract: the sets at hand have the members of those that are meant. Assumes nothing.
 use native.Mathlib.Omega.{arith}
 use Rattle.logic.specs.Iff.{iff-trans}
-use Rattle.gate.proofs.Row.{odd-part, other-fits, same-mediates}
+use Rattle.rules.proofs.Row.{odd-part, other-fits, same-mediates}
 use borrow.Author.Needs.{needs}
-use Rattle.gate.proofs.mediates.Statement.{statement}
-use Rattle.gate.proofs.mediates.Tie as tie
+use Rattle.rules.proofs.mediates.Statement.{statement}
+use Rattle.rules.proofs.mediates.Tie as tie
 
 returns : tie.Need-returns
 returns c = other-fits (λ e. omega arith) (λ e. omega arith)

@@ -1,10 +1,10 @@
--- `gate::minus_passes` meets its contract: the set at hand has V-'s members, and the two tests are the two facts. Assumes nothing.
+-- `rules::minus_passes` meets its contract: the set at hand has V-'s members, and the two tests are the two facts. Assumes nothing.
 use native.Mathlib.Omega.{arith}
 use Rattle.logic.specs.Iff.{iff-trans, not-then-false}
-use Rattle.gate.proofs.Row.{no-iff, same-t2, same-apart}
+use Rattle.rules.proofs.Row.{no-iff, same-t2, same-apart}
 use borrow.Author.Needs.{needs}
-use Rattle.gate.proofs.minus_passes.Statement.{statement}
-use Rattle.gate.proofs.minus_passes.Tie as tie
+use Rattle.rules.proofs.minus_passes.Statement.{statement}
+use Rattle.rules.proofs.minus_passes.Tie as tie
 
 role-place-requires : tie.Need-role-place-requires
 role-place-requires c κs = search needs

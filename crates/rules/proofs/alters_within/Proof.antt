@@ -1,9 +1,9 @@
--- `gate::alters_within` meets its contract: a set is a part of another one with b exactly if who is missing there is in b. Assumes nothing.
+-- `rules::alters_within` meets its contract: a set is a part of another one with b exactly if who is missing there is in b. Assumes nothing.
 use Rattle.securon.specs.Sets.{marked}
-use Rattle.gate.proofs.Row.{altered-iff}
+use Rattle.rules.proofs.Row.{altered-iff}
 use borrow.Author.Needs.{needs}
-use Rattle.gate.proofs.alters_within.Statement.{statement}
-use Rattle.gate.proofs.alters_within.Tie as tie
+use Rattle.rules.proofs.alters_within.Statement.{statement}
+use Rattle.rules.proofs.alters_within.Tie as tie
 
 union-requires : tie.Need-union-requires
 union-requires c κs = search needs

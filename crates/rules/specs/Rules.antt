@@ -6,8 +6,10 @@ use Prim.Native.Nat.{ℕ}
 use Rattle.securon.specs.Sets.{Set, _⊆_, Apart}
 use Rattle.tree.specs.declared.Tree.{Tree}
 use Rattle.expression.specs.Bytes.{SET, MeetsT1, MeetsT2}
+use Rattle.policy.specs.declared.Role.{Role}
+use Rattle.policy.specs.declared.File.{File}
 use Rattle.policy.specs.declared.State.{State}
-use Rattle.policy.specs.State.{read, write, vPlusOf, vMinusOf, m1Of, m2Of, bOf, t1Of, eOf, t2Of, gOf}
+use Rattle.policy.specs.State.{read, write, roleAt, fileAt, rolePart, filePart, vPlusPlace, vMinusPlace, m1Place, m2Place, bPlace, t1Place, ePlace, t2Place, gPlace}
 
 -- "A role passes a row when all four hold": V+ meets T1; SET(E) is within V+; V- does not meet T2; V- and SET(G) share no securon
 pub record PassesRow (t : Tree) (vPlus vMinus : Set) (t1 e t2 g : List ℕ) : Type 0 where
@@ -16,13 +18,18 @@ pub record PassesRow (t : Tree) (vPlus vMinus : Set) (t1 e t2 g : List ℕ) : Ty
   pub not-t2 : MeetsT2 t vMinus t2 → ⊥
   pub apart-g : Apart vMinus (SET t g)
 
--- the role passes the file's row of that mode
-abbrev pub Passes : State → ℕ → ℕ → ℕ → Type 0
-Passes s role file mode =
-    PassesRow (s .tree) (SET (s .tree) (vPlusOf s role mode)) (SET (s .tree) (vMinusOf s role mode))
-    (t1Of s file mode) (eOf s file mode) (t2Of s file mode) (gOf s file mode)
+-- the role passes the file's row of that mode, over the tree
+abbrev pub RolePasses : Tree → Role → File → ℕ → Type 0
+RolePasses t r f mode =
+    PassesRow t (SET t (rolePart r (vPlusPlace mode))) (SET t (rolePart r (vMinusPlace mode)))
+    (filePart f (t1Place mode)) (filePart f (ePlace mode)) (filePart f (t2Place mode)) (filePart f (gPlace mode))
 
--- Read: E of that row within M1, G within M2. Write: M1 within E, M2 within G, of the file's Read row. The other modes ask nothing. Here e and g are those of the Read row
+-- and so for a role and a file of a state, by their numbers
+abbrev pub Passes : State → ℕ → ℕ → ℕ → Type 0
+Passes s role file mode = RolePasses (s .tree) (roleAt s role) (fileAt s file) mode
+
+-- Read: E of that row within M1, G within M2. Write: M1 within E, M2 within G, of the file's Read row. The other modes ask nothing.
+-- Here e and g are those of the Read row
 pub record MediatesRow (mode : ℕ) (m1 m2 e g : Set) : Type 0 where
   pub e-in-m1 : mode ≡ read → e ⊆ m1
   pub g-in-m2 : mode ≡ read → g ⊆ m2
@@ -30,9 +37,12 @@ pub record MediatesRow (mode : ℕ) (m1 m2 e g : Set) : Type 0 where
   pub m2-in-g : mode ≡ write → m2 ⊆ g
 
 -- the role's mediating sets fit the file's Read row for that mode
+abbrev pub RoleMediates : Tree → Role → File → ℕ → Type 0
+RoleMediates t r f mode =
+    MediatesRow mode (SET t (rolePart r m1Place)) (SET t (rolePart r m2Place)) (SET t (filePart f (ePlace read))) (SET t (filePart f (gPlace read)))
+
 abbrev pub Mediates : State → ℕ → ℕ → ℕ → Type 0
-Mediates s role file mode =
-    MediatesRow mode (SET (s .tree) (m1Of s role)) (SET (s .tree) (m2Of s role)) (SET (s .tree) (eOf s file read)) (SET (s .tree) (gOf s file read))
+Mediates s role file mode = RoleMediates (s .tree) (roleAt s role) (fileAt s file) mode
 
 -- who enters or leaves where the one set becomes the other
 abbrev pub EntersOrLeaves : Set → Set → Set
@@ -44,6 +54,9 @@ pub record CoversRow (b oldE newE oldG newG : Set) : Type 0 where
   pub of-g : EntersOrLeaves oldG newG ⊆ b
 
 -- the role's bypass set has what a store of e and g into the file's row of that mode needs
+abbrev pub RoleCovers : Tree → Role → File → ℕ → List ℕ → List ℕ → Type 0
+RoleCovers t r f mode e g =
+    CoversRow (SET t (rolePart r bPlace)) (SET t (filePart f (ePlace mode))) (SET t e) (SET t (filePart f (gPlace mode))) (SET t g)
+
 abbrev pub Covers : State → ℕ → ℕ → ℕ → List ℕ → List ℕ → Type 0
-Covers s role file mode e g =
-    CoversRow (SET (s .tree) (bOf s role)) (SET (s .tree) (eOf s file mode)) (SET (s .tree) e) (SET (s .tree) (gOf s file mode)) (SET (s .tree) g)
+Covers s role file mode e g = RoleCovers (s .tree) (roleAt s role) (fileAt s file) mode e g
