@@ -2,7 +2,7 @@
 ghost use mathlib.Core.Path.{_≡_};
 ghost use mathlib.Core.Bool.{true};
 ghost use mathlib.Core.Logic.{_↔_};
-ghost use Prim.Native.Nat.{_<_};
+ghost use Prim.Native.Nat.{_+_, _<_};
 ghost use Rattle.securon.specs.Sets.{setRoom, empty, only, _∪_, _⊆_, _≐_, Apart, marked};
 
 // The room of a set: the numbers that a securon can have are those below.
@@ -18,15 +18,30 @@ impl Securon {
     pub const ROOT: Securon = Securon(0);
 }
 
+impl Level {
+    // Whether this level is the larger: what "over" and "under" of two levels ask.
+    pub fn over(self, other: Level) -> bool
+        ensures { λ r. ⌜ (r ≡ true) ↔ (other .0 < self .0) ⌝ }
+    {
+        other.0 < self.0
+    }
+
+    // The level of a child.
+    pub fn next(self) -> Level
+        requires { ⌜ self .0 < setRoom ⌝ }
+        ensures { λ r. ⌜ r .0 ≡ self .0 + 1 ⌝ }
+    {
+        Level(self.0 + 1)
+    }
+}
+
 // A set of securons: a mark for each that is in it.
 pub struct SecuronSet {
     pub has: [bool; ROOM],
 }
 
 impl SecuronSet {
-    pub const EMPTY: SecuronSet = SecuronSet {
-        has: [false; ROOM],
-    };
+    pub const EMPTY: SecuronSet = SecuronSet { has: [false; ROOM] };
 
     // The set with no member.
     pub fn empty() -> SecuronSet

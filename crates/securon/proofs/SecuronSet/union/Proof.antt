@@ -35,11 +35,13 @@ loop-less c = omega arith
 loop-again : tie.Need-loop-again Inv-loop μ-loop
 loop-again c =
     let g : length (c .before .before .before .before .args .self .has) ≡ setRoom = search needs in
-    let j = c .before .before .before .loop .inv .1 in
-    (omega arith, ⊎-elim
-        (λ w. rw (w .1) (joined-mark j (omega arith) (w .0 .taken)))
-        (λ w. rw (w .1) (joined-skip j (λ m. false≢true (sym (w .0 .left) ∙ m))))
-        (c .if1 .came))
+    let j = c .before .before .before .loop .inv .1 in (
+      omega arith,
+      ⊎-elim
+          (λ w. rw (w .1) (joined-mark j (omega arith) (w .0 .taken)))
+          (λ w. rw (w .1) (joined-skip j (λ m. false≢true (sym (w .0 .left) ∙ m))))
+          (c .if1 .came),
+    )
 
 returns : tie.Need-returns Inv-loop μ-loop
 returns c =
