@@ -61,7 +61,7 @@ told c =
     ⊎-elim
     (λ w. subst T (sym (w .1)) (subst (Reaches (c .before .before .args .parent .now) (c .before .loop .at)) (w .0 .taken) here))
     (⊎-elim
-    (λ w. subst T (sym (w .3)) (λ r. w .0 .left (reaches-root r (w .2 .taken))))
+    (λ w. subst T (sym (w .3)) (λ r. w .0 .left (reaches-root r (omega (arith, w .2 .taken)))))
     (λ w. subst T (sym (w .4)) (λ r. omega (arith, reaches-smaller r (c .before .loop .inv .0), w .3 .taken))))
     (c .if1 .came)
 
