@@ -15,7 +15,7 @@ use Rattle.expression.specs.declared.Kind.{Kind}
 use Rattle.expression.specs.Bytes.{bytes, Fits, Right, MeetsBytes}
 use Rattle.expression.specs.Laws.{meets-term, meets-AND, meets-OR}
 use Rattle.expression.specs.Fronts.{Front, TermFront, Tests, TestsTerm}
-use Rattle.expression.proofs.Scanning.{from, from-drop}
+use Rattle.expression.specs.Scan.{from, from-drop}
 
 -- the byte at k of a list that is known
 byte : {bs l : List ℕ} (k : ℕ) → bs ≡ l → getD bs k 0 ≡ getD l k 0

@@ -17,7 +17,7 @@ use Rattle.expression.specs.Bytes.{bytes, Right, SET}
 use Rattle.expression.specs.Scan.{cat, AllFit, bytes-some}
 use Rattle.expression.specs.Unique.{one-expression}
 use Rattle.expression.specs.Fronts.{TermFront, AddsTerm}
-use Rattle.expression.proofs.Scanning.{from, from-drop}
+use Rattle.expression.specs.Scan.{from, from-drop}
 
 -- a member of the SET of one of these
 abbrev pub anySET : Tree → List Expr → Set

@@ -1,4 +1,4 @@
--- Expressions and what they mean (01, "Expressions and what they mean"; 002, 2.3 to 2.5).
+-- Expressions and what they mean (01, "Expressions and what they mean"; 002, 2.3 to 2.5). Definitions only.
 use mathlib.Core.Path.{_≡_}
 use mathlib.Core.Logic.{_⊎_}
 use Prim.Native.Nat.{ℕ, _<_, _≤_}

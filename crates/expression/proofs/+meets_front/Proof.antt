@@ -4,7 +4,7 @@ use mathlib.Core.List.{_++_}
 use native.Mathlib.Omega.{arith}
 use borrow.Author.Needs.{needs}
 use lib.ListN.{length}
-use Rattle.expression.proofs.Scanning.{from, from-length}
+use Rattle.expression.specs.Scan.{from, from-length}
 use Rattle.expression.specs.Bytes.{bytes}
 use Rattle.expression.specs.Fronts.{Front}
 use Rattle.expression.proofs.Fronts.{front-some, front-term, front-operator, tests-term, tests-operator}

@@ -5,7 +5,7 @@ use native.Mathlib.Decide.{ℕ-discrete}
 use native.Mathlib.Omega.{arith}
 use borrow.Author.Needs.{needs}
 use lib.ListN.{length}
-use Rattle.expression.proofs.Scanning.{from-length}
+use Rattle.expression.specs.Scan.{from-length}
 use Rattle.expression.proofs.Gathering.{Gathered, gathered-start, gathered-end, gathered-and, gathered-front, gathered-term}
 use Rattle.expression.proofs.set_of.Statement.{statement}
 use Rattle.expression.proofs.set_of.Tie as tie

@@ -1,4 +1,4 @@
--- How far the term at the front of some bytes stands. A device of the proofs.
+-- How far the term at the front of some bytes stands: definitions for the functions inside. Definitions only.
 use mathlib.Core.Path.{_≡_}
 use mathlib.Core.Bool.{Bool, true, false}
 use mathlib.Core.List.{List, _++_}
