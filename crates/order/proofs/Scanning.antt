@@ -12,22 +12,13 @@ use lib.Seq.{take-add, take-all, length-take-le, drop-length}
 use Rattle.answer.specs.Faults.{FaultAt}
 use Rattle.answer.specs.Laws.{fault-after}
 use Rattle.logic.specs.Iff.{iff-trans}
 use Rattle.expression.specs.declared.Kind.{Kind}
-use Rattle.expression.specs.declared.Scanned.{Scanned}
-use Rattle.expression.specs.declared.Scanned.the-variants.{Short, Fault}
-use Rattle.expression.specs.Bytes.{MayOR, Written, Right, Finds}
-use Rattle.expression.specs.Scan.{Rest, written-rest, rest-none, rest-and, rest-or, fault-right, fault-over, fault-end}
-use Rattle.expression.specs.Heads.{Head}
-
--- the bytes from `at` on, as the code lends them
-abbrev pub from : List ℕ → ℕ → List ℕ
-from bs at = take (length bs - at) (drop at bs)
-
-pub from-drop : (bs : List ℕ) (at : ℕ) → from bs at ≡ drop at bs
-from-drop bs at = take-all (length bs - at) (drop at bs) (rw length-drop (le-refl (length bs - at)))
-
-pub from-length : (bs : List ℕ) (at : ℕ) → length (from bs at) ≡ length bs - at
-from-length bs at = ap length (from-drop bs at) ∙ length-drop at bs
+use Rattle.order.specs.declared.Scanned.{Scanned}
+use Rattle.order.specs.declared.Scanned.the-variants.{Short, Fault}
+use Rattle.expression.specs.Bytes.{MayOR, Written, Right}
+use Rattle.order.specs.Order.{Finds}
+use Rattle.expression.specs.Scan.{Rest, written-rest, rest-none, rest-and, rest-or, fault-right, fault-over, fault-end, from, from-drop, from-length}
+use Rattle.order.specs.Heads.{Head}
 
 module _ (kind : Kind) (n d : ℕ) where
   fit : {k m : ℕ} {r : List ℕ} → k ≡ m → Rest kind n d k r → Rest kind n d m r

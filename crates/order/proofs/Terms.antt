@@ -7,9 +7,9 @@ use Prim.Native.Nat.{ℕ, suc, _+_, _<_, _≤_}
 use native.Mathlib.Omega.{arith}
 use lib.ListN.{length, getD, take}
 use Rattle.answer.specs.Faults.{FaultAt}
 use Rattle.expression.specs.declared.Kind.{Kind}
 use Rattle.expression.specs.Scan.{Rest, fault-one, fault-securon, fault-from, fault-to, fault-code, whole-one, whole-range}
-use Rattle.expression.specs.Heads.{Head}
+use Rattle.order.specs.Heads.{Head}
 
 -- a next byte that there is not, or that can't stand
 Bad : List ℕ → (ℕ → Type 0) → Type 0

@@ -1,11 +1,11 @@
--- `expression::check` meets its contract: the length is judged first, and then the scan says it. Assumes nothing.
+-- `order::check` meets its contract: the length is judged first, and then the scan says it. Assumes nothing.
 use mathlib.Core.Path.{refl, subst}
 use mathlib.Core.Logic.{inl, inr}
 use native.Mathlib.Omega.{arith}
-use Rattle.expression.specs.Bytes.{Finds}
+use Rattle.order.specs.Order.{Finds}
 use borrow.Author.Needs.{needs}
-use Rattle.expression.proofs.check.Statement.{statement}
-use Rattle.expression.proofs.check.Tie as tie
+use Rattle.order.proofs.check.Statement.{statement}
+use Rattle.order.proofs.check.Tie as tie
 
 returns : tie.Need-returns
 returns c = inl (c .if1 .taken, refl)

@@ -1,10 +1,10 @@
--- `expression::joins` meets its contract: each test is one of its cases. Assumes nothing.
+-- `order::joins` meets its contract: each test is one of its cases. Assumes nothing.
 use mathlib.Core.Path.{refl}
 use mathlib.Core.Bool.{false≢true}
 use mathlib.Core.Logic.{inl, inr, ⊎-elim}
 use native.Mathlib.Omega.{arith}
-use Rattle.expression.proofs.joins.Statement.{statement}
-use Rattle.expression.proofs.joins.Tie as tie
+use Rattle.order.proofs.joins.Statement.{statement}
+use Rattle.order.proofs.joins.Tie as tie
 
 returns : tie.Need-returns
 returns c = ((λ _. inl (c .if1 .taken)), λ _. refl)

@@ -1,10 +1,10 @@
--- `expression::judge` meets its contract: the check says whether the bytes are in order, and only then they are tested. Assumes nothing.
+-- `order::judge` meets its contract: the check says whether the bytes are in order, and only then they are tested. Assumes nothing.
 use mathlib.Core.Path.{subst}
 use Rattle.logic.specs.Iff.{not-then-false}
-use Rattle.expression.specs.Bytes.{Checks}
+use Rattle.order.specs.Order.{Checks}
 use borrow.Author.Needs.{needs}
-use Rattle.expression.proofs.judge.Statement.{statement}
-use Rattle.expression.proofs.judge.Tie as tie
+use Rattle.order.proofs.judge.Statement.{statement}
+use Rattle.order.proofs.judge.Tie as tie
 
 levels-requires : tie.Need-levels-requires
 levels-requires c κs = search needs

@@ -1,10 +1,10 @@
--- `expression::may_or` meets its contract: OR may stand in a protection and not in a privilege. Assumes nothing.
+-- `order::may_or` meets its contract: OR may stand in a protection and not in a privilege. Assumes nothing.
 use mathlib.Core.Path.{refl, sym, subst}
 use mathlib.Core.Bool.{false≢true}
 use Rattle.expression.specs.Bytes.{MayOR}
 use borrow.Author.Needs.{needs}
-use Rattle.expression.proofs.may_or.Statement.{statement}
-use Rattle.expression.proofs.may_or.Tie as tie
+use Rattle.order.proofs.may_or.Statement.{statement}
+use Rattle.order.proofs.may_or.Tie as tie
 
 enum-told : tie.Need-enum-told
 enum-told c = search needs

@@ -1,13 +1,13 @@
--- `expression::meets_part` meets its contract: each part has its own test. Assumes nothing.
+-- `order::meets_part` meets its contract: each part has its own test. Assumes nothing.
 use mathlib.Core.Path.{_≡_, sym, subst}
 use mathlib.Core.Bool.{true}
 use mathlib.Core.Logic.{_↔_}
 use Rattle.securon.specs.Sets.{marked}
-use Rattle.expression.specs.declared.Mutable.{Mutable}
-use Rattle.expression.specs.Judge.{MeetsPart}
+use Rattle.order.specs.declared.Mutable.{Mutable}
+use Rattle.order.specs.Order.{MeetsPart}
 use borrow.Author.Needs.{needs}
-use Rattle.expression.proofs.meets_part.Statement.{statement}
-use Rattle.expression.proofs.meets_part.Tie as tie
+use Rattle.order.proofs.meets_part.Statement.{statement}
+use Rattle.order.proofs.meets_part.Tie as tie
 
 enum-told : tie.Need-enum-told
 enum-told c = search needs

@@ -1,9 +1,9 @@
--- `expression::name_set` meets its contract: the check says whether the bytes are in order, and only then they are read. Assumes nothing.
+-- `order::name_set` meets its contract: the check says whether the bytes are in order, and only then they are read. Assumes nothing.
 use mathlib.Core.Path.{subst}
-use Rattle.expression.specs.Bytes.{Checks}
+use Rattle.order.specs.Order.{Checks}
 use borrow.Author.Needs.{needs}
-use Rattle.expression.proofs.name_set.Statement.{statement}
-use Rattle.expression.proofs.name_set.Tie as tie
+use Rattle.order.proofs.name_set.Statement.{statement}
+use Rattle.order.proofs.name_set.Tie as tie
 
 levels-requires : tie.Need-levels-requires
 levels-requires c κs = search needs

@@ -1,9 +1,9 @@
--- `expression::one_part` meets its contract: the securon is not there, or not below n, or the term is whole. Assumes nothing.
+-- `order::one_part` meets its contract: the securon is not there, or not below n, or the term is whole. Assumes nothing.
 use native.Mathlib.Omega.{arith}
-use Rattle.expression.proofs.Terms.{head-stuck, head-whole, one-stuck, one-whole}
+use Rattle.order.proofs.Terms.{head-stuck, head-whole, one-stuck, one-whole}
 use borrow.Author.Needs.{needs}
-use Rattle.expression.proofs.one_part.Statement.{statement}
-use Rattle.expression.proofs.one_part.Tie as tie
+use Rattle.order.proofs.one_part.Statement.{statement}
+use Rattle.order.proofs.one_part.Tie as tie
 
 stuck-requires : tie.Need-stuck-requires
 stuck-requires c κs = search needs

@@ -1,4 +1,4 @@
--- `expression::scan` meets its contract: at the place reached, `due` whole expressions are to follow. The measure is what is left of the bytes. Assumes nothing.
+-- `order::scan` meets its contract: at the place reached, `due` whole expressions are to follow. The measure is what is left of the bytes. Assumes nothing.
 use mathlib.Core.Path.{_≡_, subst}
 use mathlib.Core.Bool.{true}
 use mathlib.Core.Logic.{inl, inr, ⊎-elim, _↔_}
@@ -7,19 +7,19 @@ use native.Mathlib.Omega.{arith}
 use borrow.Author.Needs.{needs}
 use borrow.Author.Tests.{not-true, not-false}
 use lib.ListN.{length}
 use Rattle.expression.specs.declared.Kind.{Kind}
 use Rattle.logic.specs.Iff.{not-then-false}
 use Rattle.expression.specs.Bytes.{MayOR}
-use Rattle.expression.specs.Scan.{nil-of}
-use Rattle.expression.proofs.Scanning.{At, from-length, at-start, at-operator, at-term, at-stuck, at-over, at-whole, at-short, finds-stopped}
-use Rattle.expression.proofs.scan.Statement.{statement}
-use Rattle.expression.proofs.scan.Tie as tie
+use Rattle.expression.specs.Scan.{nil-of, from-length}
+use Rattle.order.proofs.Scanning.{At, at-start, at-operator, at-term, at-stuck, at-over, at-whole, at-short, finds-stopped}
+use Rattle.order.proofs.scan.Statement.{statement}
+use Rattle.order.proofs.scan.Tie as tie
 
 abbrev Inv-loop : tie.InvT-loop
-Inv-loop b n or d due₀ at₀ due at = (kind : Kind) → (or ≡ true) ↔ MayOR kind → At kind n d b due at
+Inv-loop b n depth or due₀ at₀ due at = (kind : Kind) → (or ≡ true) ↔ MayOR kind → At kind n (depth .0) b due at
 
 abbrev μ-loop : tie.MeasureT-loop
-μ-loop b n or d due₀ at₀ due at = length b - at
+μ-loop b n depth or due₀ at₀ due at = length b - at
 
 returns : tie.Need-returns Inv-loop μ-loop
 returns c = inl (nil-of _ (c .if1 .taken))

@@ -1,8 +1,8 @@
--- `expression::stopped` meets its contract: each branch is one of its cases. Assumes nothing.
+-- `order::stopped` meets its contract: each branch is one of its cases. Assumes nothing.
 use mathlib.Core.Path.{refl}
 use mathlib.Core.Logic.{inl, inr}
-use Rattle.expression.proofs.stopped.Statement.{statement}
-use Rattle.expression.proofs.stopped.Tie as tie
+use Rattle.order.proofs.stopped.Statement.{statement}
+use Rattle.order.proofs.stopped.Tie as tie
 
 returns : tie.Need-returns
 returns c = inl (c .if1 .taken, refl)

@@ -1,10 +1,10 @@
--- `expression::term_part` meets its contract: 01 and 02 begin a term, and nothing else does. Assumes nothing.
+-- `order::term_part` meets its contract: 01 and 02 begin a term, and nothing else does. Assumes nothing.
 use borrow.Author.Needs.{zero≤}
 use Rattle.expression.specs.Scan.{rest-other}
-use Rattle.expression.proofs.Terms.{head-stuck, code-stuck}
+use Rattle.order.proofs.Terms.{head-stuck, code-stuck}
 use borrow.Author.Needs.{needs}
-use Rattle.expression.proofs.term_part.Statement.{statement}
-use Rattle.expression.proofs.term_part.Tie as tie
+use Rattle.order.proofs.term_part.Statement.{statement}
+use Rattle.order.proofs.term_part.Tie as tie
 
 shared-slice-read-code : tie.Need-shared-slice-read-code
 shared-slice-read-code c = search needs
@@ -28,8 +28,8 @@ returns-3 : tie.Need-returns-3
 returns-3 c =
     let a = c .before .before .before .before .before .args in
     let p = c .before .before .before .before .before .pre in
-    λ kind none. head-stuck kind (a .n) (a .depth) (c .stuck .ensures .0) (c .stuck .ensures .1) zero≤
-    (code-stuck kind (a .n) (a .depth) (p .0) (a .rest .now) (p .1) (λ k r. rest-other kind (a .n) (a .depth) k _ r (c .before .before .if1 .left) (c .before .if2 .left) (none .0) (none .1)))
+    λ kind none. head-stuck kind (a .n) (a .depth .0) (c .stuck .ensures .0) (c .stuck .ensures .1) zero≤
+    (code-stuck kind (a .n) (a .depth .0) (p .0) (a .rest .now) (p .1) (λ k r. rest-other kind (a .n) (a .depth .0) k _ r (c .before .before .if1 .left) (c .before .if2 .left) (none .0) (none .1)))
 
 pub term-part-spec : {M : Type 1} → statement M
 term-part-spec =
