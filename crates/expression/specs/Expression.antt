@@ -39,7 +39,8 @@ privilegeSET t (term x) = termSET t x
 privilegeSET t (a AND b) = privilegeSET t a ∪ privilegeSET t b
 privilegeSET t (a OR b) = empty
 
--- the value of a protection expression is a set of sets; U is one of them: a term gives one singleton per member; OR is the union; AND is all unions of one member from each side
+-- the value of a protection expression is a set of sets; U is one of them:
+-- a term gives one singleton per member; OR is the union; AND is all unions of one member from each side
 abbrev pub Value : Tree → Expr → Marks → Type 0
 Value t (term x) U = (u : ℕ) × termSET t x u × (U ≡ markOf u)
 Value t (a OR b) U = Value t a U ⊎ Value t b U

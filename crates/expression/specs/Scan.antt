@@ -205,7 +205,9 @@ module _ (kind : Kind) (n d : ℕ) where
 
     pub fault-securon : (k : ℕ) (l : List ℕ) → ((s : ℕ) (r : List ℕ) → l ≡ s ∷ r → s < n → ⊥) → FaultAt (Rest (suc k)) (2 ∷ l) 1
     fault-securon k l bad = fault-after (Rest (suc k)) (AfterRange k) (2 ∷ []) l (rest-range k)
-        (fault-here (AfterRange k) l (let f = fill some k in (0 ∷ 0 ∷ 0 ∷ f .0, (some, (zero≤, ((zero≤, zero≤), f .1))))) (λ x r t e w. bad x r e (w .0)) (λ e w. w))
+        (fault-here (AfterRange k) l
+        (let f = fill some k in (0 ∷ 0 ∷ 0 ∷ f .0, (some, (zero≤, ((zero≤, zero≤), f .1)))))
+        (λ x r t e w. bad x r e (w .0)) (λ e w. w))
 
     pub fault-from : (k s : ℕ) (l : List ℕ) → s < n → ((i : ℕ) (r : List ℕ) → l ≡ i ∷ r → i ≤ d → ⊥) → FaultAt (Rest (suc k)) (2 ∷ s ∷ l) 2
     fault-from k s l h bad = fault-after (Rest (suc k)) (AfterSecuron k) (2 ∷ s ∷ []) l

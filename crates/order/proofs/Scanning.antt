@@ -35,7 +35,8 @@ module _ (kind : Kind) (n d : ℕ) where
 
   module _ {bs : List ℕ} {k at : ℕ} (a : At bs k at) where
     -- g bytes further on, m expressions are to follow
-    pub at-next : (m g : ℕ) → at + g ≤ length bs → m ≤ at + g + 1 → ((r : List ℕ) → Rest kind n d k (take g (drop at bs) ++ r) ↔ Rest kind n d m r) → At bs m (at + g)
+    pub at-next : (m g : ℕ) → at + g ≤ length bs → m ≤ at + g + 1
+        → ((r : List ℕ) → Rest kind n d k (take g (drop at bs) ++ r) ↔ Rest kind n d m r) → At bs m (at + g)
     at-next m g h f step = record {
       within = h;
       few = f;
@@ -55,9 +56,12 @@ module _ (kind : Kind) (n d : ℕ) where
 
     -- an operator is followed by one expression more
     pub at-operator : at < length bs → 0 < k → (getD (from bs at) 0 0 ≡ 3) ⊎ ((getD (from bs at) 0 0 ≡ 4) × MayOR kind) → At bs (k + 1) (at + 1)
-    at-operator h p o = at-next (k + 1) 1 (omega arith) (omega (arith, a .few)) (λ r. go (drop at bs) (rw length-drop (omega arith)) (rw (from-drop bs at) at o) r)
+    at-operator h p o =
+        let first = rw (from-drop bs at) at o in
+        at-next (k + 1) 1 (omega arith) (omega (arith, a .few)) (go (drop at bs) (rw length-drop (omega arith)) first)
       where
-        go : (l : List ℕ) → 0 < length l → (getD l 0 0 ≡ 3) ⊎ ((getD l 0 0 ≡ 4) × MayOR kind) → (r : List ℕ) → Rest kind n d k (take 1 l ++ r) ↔ Rest kind n d (k + 1) r
+        go : (l : List ℕ) → 0 < length l → (getD l 0 0 ≡ 3) ⊎ ((getD l 0 0 ≡ 4) × MayOR kind) → (r : List ℕ)
+            → Rest kind n d k (take 1 l ++ r) ↔ Rest kind n d (k + 1) r
         go [] q o r = absurd (omega arith)
         go (x ∷ l) q (inl e) r = rw e (
           (λ w. fit (omega arith) (rest-and kind n d (k - 1) r .0 (fit (omega arith) w))),

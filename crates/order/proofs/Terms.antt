@@ -20,7 +20,8 @@ unfolding Bad
 bad l P h x r e p = subst (λ (t : List ℕ). (0 < length t → P (getD t 0 0) → ⊥)) e h (omega arith) p
 
 module _ (kind : Kind) (n d : ℕ) where
-  pub head-stuck : {l : List ℕ} {whole : Bool} {good m : ℕ} → whole ≡ false → good ≡ m → m ≤ length l → ((k : ℕ) → FaultAt (Rest kind n d (suc k)) l m) → Head kind n d l whole good
+  pub head-stuck : {l : List ℕ} {whole : Bool} {good m : ℕ} → whole ≡ false → good ≡ m → m ≤ length l
+      → ((k : ℕ) → FaultAt (Rest kind n d (suc k)) l m) → Head kind n d l whole good
   head-stuck {l} w g h f = record {
     within = rw g h;
     some = λ e. absurd (true≢false (sym e ∙ w));
@@ -28,7 +29,8 @@ module _ (kind : Kind) (n d : ℕ) where
     stuck = λ _ k. rw g (f k);
   }
 
-  pub head-whole : {l : List ℕ} {m : ℕ} → m ≤ length l → 0 < m → ((k : ℕ) (r : List ℕ) → Rest kind n d (suc k) (take m l ++ r) ↔ Rest kind n d k r) → Head kind n d l true m
+  pub head-whole : {l : List ℕ} {m : ℕ} → m ≤ length l → 0 < m
+      → ((k : ℕ) (r : List ℕ) → Rest kind n d (suc k) (take m l ++ r) ↔ Rest kind n d k r) → Head kind n d l true m
   head-whole h p f = record { within = h; some = λ _. p; full = λ _. f; stuck = λ e. absurd (true≢false e) }
 
   module _ (some : 0 < n) where
@@ -42,13 +44,15 @@ module _ (kind : Kind) (n d : ℕ) where
     securon-stuck [] p e h k = absurd (omega arith)
     securon-stuck (x ∷ l) p e h k = rw e (fault-securon kind n d some k l (bad l (λ s. s < n) (λ q. h (omega arith))))
 
-    pub from-stuck : (l : List ℕ) → 1 < length l → getD l 0 0 ≡ 2 → getD l 1 0 < n → (2 < length l → getD l 2 0 ≤ d → ⊥) → (k : ℕ) → FaultAt (Rest kind n d (suc k)) l 2
+    pub from-stuck : (l : List ℕ) → 1 < length l → getD l 0 0 ≡ 2 → getD l 1 0 < n → (2 < length l → getD l 2 0 ≤ d → ⊥) → (k : ℕ)
+        → FaultAt (Rest kind n d (suc k)) l 2
     unfolding Bad
     from-stuck [] p e s h k = absurd (omega arith)
     from-stuck (x ∷ []) p e s h k = absurd (omega arith)
     from-stuck (x ∷ y ∷ l) p e s h k = rw e (fault-from kind n d some k y l s (bad l (λ i. i ≤ d) (λ q. h (omega arith))))
 
-    pub to-stuck : (l : List ℕ) → 2 < length l → getD l 0 0 ≡ 2 → getD l 1 0 < n → getD l 2 0 ≤ d → (3 < length l → getD l 2 0 ≤ getD l 3 0 → getD l 3 0 ≤ d → ⊥) → (k : ℕ) → FaultAt (Rest kind n d (suc k)) l 3
+    pub to-stuck : (l : List ℕ) → 2 < length l → getD l 0 0 ≡ 2 → getD l 1 0 < n → getD l 2 0 ≤ d
+        → (3 < length l → getD l 2 0 ≤ getD l 3 0 → getD l 3 0 ≤ d → ⊥) → (k : ℕ) → FaultAt (Rest kind n d (suc k)) l 3
     unfolding Bad
     to-stuck [] p e s i h k = absurd (omega arith)
     to-stuck (x ∷ []) p e s i h k = absurd (omega arith)
@@ -56,11 +60,13 @@ module _ (kind : Kind) (n d : ℕ) where
     to-stuck (x ∷ y ∷ z ∷ l) p e s i h k =
         rw e (fault-to kind n d some k y z l s i (λ j r q f g. bad l (λ j. (z ≤ j) × (j ≤ d)) (λ a w. h (omega arith) (w .0) (w .1)) j r q (f, g)))
 
-    pub code-stuck : (l : List ℕ) → 0 < length l → ((k : ℕ) (r : List ℕ) → Rest kind n d (suc k) (getD l 0 0 ∷ r) → ⊥) → (k : ℕ) → FaultAt (Rest kind n d (suc k)) l 0
+    pub code-stuck : (l : List ℕ) → 0 < length l → ((k : ℕ) (r : List ℕ) → Rest kind n d (suc k) (getD l 0 0 ∷ r) → ⊥) → (k : ℕ)
+        → FaultAt (Rest kind n d (suc k)) l 0
     code-stuck [] p h k = absurd (omega arith)
     code-stuck (x ∷ l) p h k = fault-code kind n d some k x l (h k)
 
-  pub one-whole : (l : List ℕ) → 1 < length l → getD l 0 0 ≡ 1 → getD l 1 0 < n → (k : ℕ) (r : List ℕ) → Rest kind n d (suc k) (take 2 l ++ r) ↔ Rest kind n d k r
+  pub one-whole : (l : List ℕ) → 1 < length l → getD l 0 0 ≡ 1 → getD l 1 0 < n → (k : ℕ) (r : List ℕ)
+      → Rest kind n d (suc k) (take 2 l ++ r) ↔ Rest kind n d k r
   one-whole [] p e s k r = absurd (omega arith)
   one-whole (x ∷ []) p e s k r = absurd (omega arith)
   one-whole (x ∷ y ∷ l) p e s k r = rw e (whole-one kind n d k y r s)

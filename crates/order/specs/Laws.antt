@@ -91,7 +91,8 @@ pub one-in-order : (kind : Kind) (t : Tree) (plus : ℕ) (bs : List ℕ) → AtM
 one-in-order kind t plus bs = one-added plus (WrongOver kind t bs) (one-wrong-over kind t bs)
 
 -- each refusal of an expression names one place
-pub expression-places : (kind : Kind) (t : Tree) (x y : List ℕ) (more : List Condition) → OnePlaceEach more → OnePlaceEach (expressionConditions kind t x y ++ more)
+pub expression-places : (kind : Kind) (t : Tree) (x y : List ℕ) (more : List Condition) → OnePlaceEach more
+    → OnePlaceEach (expressionConditions kind t x y ++ more)
 expression-places kind t x y more p = (one-in-order kind t 0 x, (one-in-order kind t second y, p))
 
 -- the place for 6 of either expression has at most three digits

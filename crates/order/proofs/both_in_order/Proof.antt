@@ -18,7 +18,10 @@ granted-requires c κs = search needs
 returns : tie.Need-returns
 returns c =
     let a = c .before .before .before .before .before .args in
-    refused-first (λ k. k ≡ 0) (c .before .before .first-fault .result) (inOrder (a .kind) (a .tree) 0 (a .x .now) ∷ []) (inOrder (a .kind) (a .tree) second (a .y .now) ∷ []) (c .before .before .first-fault .ensures) (not-then-false (c .before .granted .ensures) (not-true _ (c .if1 .taken)))
+    let f = c .before .before .first-fault in
+    let first = inOrder (a .kind) (a .tree) 0 (a .x .now) ∷ [] in
+    let other = inOrder (a .kind) (a .tree) second (a .y .now) ∷ [] in
+    refused-first (λ k. k ≡ 0) (f .result) first other (f .ensures) (not-then-false (c .before .granted .ensures) (not-true _ (c .if1 .taken)))
 
 first-fault-requires-2 : tie.Need-first-fault-requires-2
 first-fault-requires-2 c κs = search needs
@@ -27,7 +30,11 @@ returns-2 : tie.Need-returns-2
 returns-2 c =
     let a = c .before .before .before .before .before .before .args in
     let first = inOrder (a .kind) (a .tree) 0 (a .x .now) ∷ [] in
-    then-second (λ k. k ≡ 0) (c .first-fault2 .result) first (inOrder (a .kind) (a .tree) second (a .y .now) ∷ []) (granted-all (λ k. k ≡ 0) (c .before .before .before .first-fault .result) first refl (c .before .before .before .first-fault .ensures) (c .before .before .granted .ensures .0 (not-false _ (c .before .if1 .left)))) (c .first-fault2 .ensures)
+    let other = inOrder (a .kind) (a .tree) second (a .y .now) ∷ [] in
+    let f = c .before .before .before .first-fault in
+    let granted = c .before .before .granted .ensures .0 (not-false _ (c .before .if1 .left)) in
+    let holds = granted-all (λ k. k ≡ 0) (f .result) first refl (f .ensures) granted in
+    then-second (λ k. k ≡ 0) (c .first-fault2 .result) first other holds (c .first-fault2 .ensures)
 
 pub both-in-order-spec : {M : Type 1} → statement M
 both-in-order-spec =

@@ -31,11 +31,14 @@ at-requires c κs = search needs
 returns : tie.Need-returns
 returns c =
     let l = c .before .before .before .before .before .pre .0 .levels .depth in
-    inr ((_, l, subst (Checks _ _ _ _) (c .before .enum-told .given .1) (c .before .before .before .check .ensures)), (c .of .ensures .number, c .of .ensures .place))
+    let o = subst (Checks _ _ _ _) (c .before .enum-told .given .1) (c .before .before .before .check .ensures) in
+    inr ((_, l, o), (c .of .ensures .number, c .of .ensures .place))
 
 returns-2 : tie.Need-returns-2
 returns-2 c =
-    let w : WrongOver _ _ _ _ = (_, c .before .before .before .before .before .before .pre .0 .levels .depth, subst (Checks _ _ _ _) (c .before .before .found .given .1) (c .before .before .before .before .check .ensures)) in
+    let l = c .before .before .before .before .before .before .pre .0 .levels .depth in
+    let f = subst (Checks _ _ _ _) (c .before .before .found .given .1) (c .before .before .before .before .check .ensures) in
+    let w : WrongOver _ _ _ _ = (_, l, f) in
     inl ((λ o. in-order-not-wrong-over _ _ _ _ o w), c .at .ensures .number, (_, w, c .at .ensures .place))
 
 pub first-fault-spec : {M : Type 1} → statement M

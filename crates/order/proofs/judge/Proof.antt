@@ -20,18 +20,25 @@ enum-told c = search needs
 
 meets-part-requires : tie.Need-meets-part-requires
 meets-part-requires c κs =
-    (record { tree = c .before .before .before .before .before .pre; levels = c .before .before .before .levels .ensures }, subst (Checks _ _ _ _) (c .enum-told .given .1) (c .before .before .check .ensures) .1)
+    let o = subst (Checks _ _ _ _) (c .enum-told .given .1) (c .before .before .check .ensures) in
+    (record { tree = c .before .before .before .before .before .pre; levels = c .before .before .before .levels .ensures }, o .1)
 
 returns : tie.Need-returns
 returns c =
-    ((_, c .before .before .before .before .before .levels .ensures .depth, subst (Checks _ _ _ _) (c .before .before .enum-told .given .1) (c .before .before .before .before .check .ensures)), c .before .meets-part .ensures .0 (c .if1 .taken))
+    let l = c .before .before .before .before .before .levels .ensures .depth in
+    let o = subst (Checks _ _ _ _) (c .before .before .enum-told .given .1) (c .before .before .before .before .check .ensures) in
+    ((_, l, o), c .before .meets-part .ensures .0 (c .if1 .taken))
 
 returns-2 : tie.Need-returns-2
-returns-2 c = (_, c .before .before .before .before .levels .ensures .depth, subst (Checks _ _ _ _) (c .before .checked .given .1) (c .before .before .before .check .ensures))
+returns-2 c =
+    let l = c .before .before .before .before .levels .ensures .depth in
+    (_, l, subst (Checks _ _ _ _) (c .before .checked .given .1) (c .before .before .before .check .ensures))
 
 returns-3 : tie.Need-returns-3
 returns-3 c =
-    ((_, c .before .before .before .before .before .levels .ensures .depth, subst (Checks _ _ _ _) (c .before .before .enum-told .given .1) (c .before .before .before .before .check .ensures)), not-then-false (c .before .meets-part .ensures) (c .if1 .left))
+    let l = c .before .before .before .before .before .levels .ensures .depth in
+    let o = subst (Checks _ _ _ _) (c .before .before .enum-told .given .1) (c .before .before .before .before .check .ensures) in
+    ((_, l, o), not-then-false (c .before .meets-part .ensures) (c .if1 .left))
 
 pub judge-spec : {M : Type 1} → statement M
 judge-spec =

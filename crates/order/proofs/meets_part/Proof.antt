@@ -24,12 +24,14 @@ meets-t2-requires c κs = search needs
 returns : tie.Need-returns
 returns c =
     let a = c .before .before .before .before .args in
-    subst (λ (p : Mutable). (c .meets-t1 .result ≡ true) ↔ MeetsPart p (a .t) (marked (a .held .has)) (a .b .now)) (sym (c .before .enum-told .given .1)) (c .meets-t1 .ensures)
+    let says : Mutable → Type 0 = λ p. (c .meets-t1 .result ≡ true) ↔ MeetsPart p (a .t) (marked (a .held .has)) (a .b .now) in
+    subst says (sym (c .before .enum-told .given .1)) (c .meets-t1 .ensures)
 
 returns-2 : tie.Need-returns-2
 returns-2 c =
     let a = c .before .before .before .before .args in
-    subst (λ (p : Mutable). (c .meets-t2 .result ≡ true) ↔ MeetsPart p (a .t) (marked (a .held .has)) (a .b .now)) (sym (c .before .enum-told2 .given .1)) (c .meets-t2 .ensures)
+    let says : Mutable → Type 0 = λ p. (c .meets-t2 .result ≡ true) ↔ MeetsPart p (a .t) (marked (a .held .has)) (a .b .now) in
+    subst says (sym (c .before .enum-told2 .given .1)) (c .meets-t2 .ensures)
 
 pub meets-part-spec : {M : Type 1} → statement M
 meets-part-spec =

@@ -22,13 +22,18 @@ enum-told c = search needs
 
 set-of-requires : tie.Need-set-of-requires
 set-of-requires c κs =
-    (record { tree = c .before .before .before .before .before .pre; levels = c .before .before .before .levels .ensures }, subst (Checks _ _ _ _) (c .enum-told .given .1) (c .before .before .check .ensures) .1)
+    let o = subst (Checks _ _ _ _) (c .enum-told .given .1) (c .before .before .check .ensures) in
+    (record { tree = c .before .before .before .before .before .pre; levels = c .before .before .before .levels .ensures }, o .1)
 
 returns : tie.Need-returns
-returns c = ((_, c .before .before .before .before .before .levels .ensures .depth, subst (Checks _ _ _ _) (c .before .before .checked .given .1) (c .before .before .before .before .check .ensures)), c .empty .ensures)
+returns c =
+    let l = c .before .before .before .before .before .levels .ensures .depth in
+    ((_, l, subst (Checks _ _ _ _) (c .before .before .checked .given .1) (c .before .before .before .before .check .ensures)), c .empty .ensures)
 
 returns-2 : tie.Need-returns-2
-returns-2 c = ((_, c .before .before .before .before .levels .ensures .depth, subst (Checks _ _ _ _) (c .before .enum-told .given .1) (c .before .before .before .check .ensures)), c .set-of .ensures)
+returns-2 c =
+    let l = c .before .before .before .before .levels .ensures .depth in
+    ((_, l, subst (Checks _ _ _ _) (c .before .enum-told .given .1) (c .before .before .before .check .ensures)), c .set-of .ensures)
 
 pub name-set-spec : {M : Type 1} → statement M
 name-set-spec =

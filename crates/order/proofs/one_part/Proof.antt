@@ -12,7 +12,8 @@ returns : tie.Need-returns
 returns c =
     let a = c .before .before .before .args in
     let p = c .before .before .before .pre in
-    λ kind d. head-stuck kind (a .n) d (c .stuck .ensures .0) (c .stuck .ensures .1) (p .1) (one-stuck kind (a .n) d (p .0) (a .rest .now) (p .1) (p .2) (λ h g. omega arith))
+    let s = c .stuck .ensures in
+    λ kind d. head-stuck kind (a .n) d (s .0) (s .1) (p .1) (one-stuck kind (a .n) d (p .0) (a .rest .now) (p .1) (p .2) (λ h g. omega arith))
 
 shared-slice-read-if2 : tie.Need-shared-slice-read-if2
 shared-slice-read-if2 c = search needs
@@ -27,7 +28,8 @@ returns-2 : tie.Need-returns-2
 returns-2 c =
     let a = c .before .before .before .before .before .args in
     let p = c .before .before .before .before .before .pre in
-    λ kind d. head-stuck kind (a .n) d (c .stuck2 .ensures .0) (c .stuck2 .ensures .1) (p .1) (one-stuck kind (a .n) d (p .0) (a .rest .now) (p .1) (p .2) (λ h g. omega arith))
+    let s = c .stuck2 .ensures in
+    λ kind d. head-stuck kind (a .n) d (s .0) (s .1) (p .1) (one-stuck kind (a .n) d (p .0) (a .rest .now) (p .1) (p .2) (λ h g. omega arith))
 
 returns-3 : tie.Need-returns-3
 returns-3 c =

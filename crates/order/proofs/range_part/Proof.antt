@@ -31,7 +31,8 @@ module _ (s : tie.Start) where
     at-from : good ≡ 2 → there 1 → byte 1 < s .args .n → (there 2 → byte 2 ≤ s .args .depth .0 → ⊥) → Stands whole good
     at-from g l b h kind = head-stuck kind _ _ w g (omega arith) (from-stuck kind _ _ (s .pre .0) _ l (s .pre .2) b h)
 
-    at-to : good ≡ 3 → there 2 → byte 1 < s .args .n → byte 2 ≤ s .args .depth .0 → (there 3 → byte 2 ≤ byte 3 → byte 3 ≤ s .args .depth .0 → ⊥) → Stands whole good
+    at-to : good ≡ 3 → there 2 → byte 1 < s .args .n → byte 2 ≤ s .args .depth .0 → (there 3 → byte 2 ≤ byte 3 → byte 3 ≤ s .args .depth .0 → ⊥)
+        → Stands whole good
     at-to g l b f h kind = head-stuck kind _ _ w g (omega arith) (to-stuck kind _ _ (s .pre .0) _ l (s .pre .2) b f h)
 
 stuck-requires : tie.Need-stuck-requires

@@ -34,7 +34,9 @@ reached c = c .before .before .before .before .before .before .before
 module _ (c : tie.After-term-part Inv-loop μ-loop) where
   abbrev Term : Kind → Type 0
   Term kind =
-      Head kind (called c .args .n) (called c .args .depth .0) (from (called c .args .b .now) (reached c .loop .at)) (c .term-part .result .whole) (c .term-part .result .good)
+      let a = called c .args in
+      let r = c .term-part .result in
+      Head kind (a .n) (a .depth .0) (from (a .b .now) (reached c .loop .at)) (r .whole) (r .good)
 
   stands : (kind : Kind) → (reached c .before .may-or .result ≡ true) ↔ MayOR kind → Term kind
   stands kind m =
@@ -51,7 +53,8 @@ module _ (c : tie.After-term-part Inv-loop μ-loop) where
 abbrev follows : (l : tie.At-loop Inv-loop μ-loop) → tie.Start Inv-loop μ-loop
 follows l = l .before .before .before .before
 
-due-at : (l : tie.At-loop Inv-loop μ-loop) → At (follows l .args .kind) (follows l .args .n) (follows l .args .depth .0) (follows l .args .b .now) (l .loop .due) (l .loop .at)
+due-at : (l : tie.At-loop Inv-loop μ-loop)
+    → At (follows l .args .kind) (follows l .args .n) (follows l .args .depth .0) (follows l .args .b .now) (l .loop .due) (l .loop .at)
 due-at l = l .loop .inv (follows l .args .kind) (l .before .may-or .ensures)
 
 returns : tie.Need-returns Inv-loop μ-loop

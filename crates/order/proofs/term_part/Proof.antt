@@ -29,7 +29,8 @@ returns-3 c =
     let a = c .before .before .before .before .before .args in
     let p = c .before .before .before .before .before .pre in
     λ kind none. head-stuck kind (a .n) (a .depth .0) (c .stuck .ensures .0) (c .stuck .ensures .1) zero≤
-    (code-stuck kind (a .n) (a .depth .0) (p .0) (a .rest .now) (p .1) (λ k r. rest-other kind (a .n) (a .depth .0) k _ r (c .before .before .if1 .left) (c .before .if2 .left) (none .0) (none .1)))
+    (code-stuck kind (a .n) (a .depth .0) (p .0) (a .rest .now) (p .1) (λ k r.
+    rest-other kind (a .n) (a .depth .0) k _ r (c .before .before .if1 .left) (c .before .if2 .left) (none .0) (none .1)))
 
 pub term-part-spec : {M : Type 1} → statement M
 term-part-spec =
