@@ -15,7 +15,7 @@ use Rattle.expression.specs.declared.Kind.{Kind}
 use Rattle.expression.specs.Bytes.{bytes, Fits, Right, MeetsBytes}
 use Rattle.expression.specs.Laws.{meets-term, meets-AND, meets-OR}
 use Rattle.expression.specs.Fronts.{Front, TermFront, Tests, TestsTerm}
-use Rattle.expression.proofs.Scanning.{from, from-drop}
+use Rattle.expression.specs.Scan.{from, from-drop}
 
 -- the byte at k of a list that is known
 byte : {bs l : List ℕ} (k : ℕ) → bs ≡ l → getD bs k 0 ≡ getD l k 0
@@ -26,7 +26,8 @@ pub is-one : {bs : List ℕ} (x : Term) (tail : List ℕ) → bs ≡ bytes (term
 is-one (one s) tail e c = ap one (sym (byte 1 e))
 is-one (range s i j) tail e c = absurd (omega (arith, byte 0 e))
 
-pub is-range : {bs : List ℕ} (x : Term) (tail : List ℕ) → bs ≡ bytes (term x) ++ tail → (getD bs 0 0 ≡ 1 → ⊥) → x ≡ range (getD bs 1 0) (getD bs 2 0) (getD bs 3 0)
+pub is-range : {bs : List ℕ} (x : Term) (tail : List ℕ) → bs ≡ bytes (term x) ++ tail → (getD bs 0 0 ≡ 1 → ⊥)
+    → x ≡ range (getD bs 1 0) (getD bs 2 0) (getD bs 3 0)
 is-range (one s) tail e c = absurd (c (byte 0 e))
 is-range (range s i j) tail e c = let p = byte 1 e in let q = byte 2 e in let r = byte 3 e in cc
 
@@ -77,7 +78,8 @@ pub record Operator (n : ℕ) (bs : List ℕ) : Type 0 where
 operands : {bs : List ℕ} (x : ℕ) (p q tail : List ℕ) → bs ≡ (x ∷ (p ++ q)) ++ tail → (from bs 1 ≡ p ++ (q ++ tail)) × (from bs (1 + length p) ≡ q ++ tail)
 operands {bs} x p q tail e =
     let one-on : drop 1 bs ≡ p ++ (q ++ tail) = ap (λ (l : List ℕ). drop 1 l) e ∙ append-assoc p q tail in
-    (from-drop bs 1 ∙ one-on, from-drop bs (1 + length p) ∙ sym (drop-drop (length p) 1 bs) ∙ ap (λ (l : List ℕ). drop (length p) l) one-on ∙ drop-append-seam p (q ++ tail))
+    let more-on = sym (drop-drop (length p) 1 bs) ∙ ap (λ (l : List ℕ). drop (length p) l) one-on ∙ drop-append-seam p (q ++ tail) in
+    (from-drop bs 1 ∙ one-on, from-drop bs (1 + length p) ∙ more-on)
 
 pub front-operator : {n : ℕ} {bs : List ℕ} → Front n bs → 3 ≤ getD bs 0 0 → Operator n bs
 front-operator {n} {bs} f c = go (f .expr) (f .fits) (f .is)
@@ -104,7 +106,8 @@ front-operator {n} {bs} f c = go (f .expr) (f .fits) (f .is)
 
 -- a test, by what stands at the front
 module _ (t : Tree) (H : Set) (bs : List ℕ) where
-  pub tests-term : (met : Bool) (used : ℕ) → getD bs 0 0 < 3 → TestsTerm t H bs met → (getD bs 0 0 ≡ 1 → used ≡ 2) × ((getD bs 0 0 ≡ 1 → ⊥) → used ≡ 4) → Tests t H bs met used
+  pub tests-term : (met : Bool) (used : ℕ) → getD bs 0 0 < 3 → TestsTerm t H bs met
+      → (getD bs 0 0 ≡ 1 → used ≡ 2) × ((getD bs 0 0 ≡ 1 → ⊥) → used ≡ 4) → Tests t H bs met used
   tests-term met used c h w (term (one s)) tail q = (w .0 (byte 0 q), iff-trans (h (one s) tail q) (iff-sym (meets-term t H (one s))))
   tests-term met used c h w (term (range s i j)) tail q =
       (w .1 (λ e. omega (arith, byte 0 q)), iff-trans (h (range s i j) tail q) (iff-sym (meets-term t H (range s i j))))
@@ -121,7 +124,8 @@ module _ (t : Tree) (H : Set) (bs : List ℕ) where
         (omega (arith, l .0, r .0, length-append (bytes a) (bytes b)), l .1, r .1)
 
     -- what the operator makes of its operands' answers
-    pub tests-operator : (met : Bool) → 3 ≤ getD bs 0 0 → (getD bs 0 0 ≡ 3 → met ≡ (x && y)) × ((getD bs 0 0 ≡ 3 → ⊥) → met ≡ (x || y)) → Tests t H bs met (1 + m + z)
+    pub tests-operator : (met : Bool) → 3 ≤ getD bs 0 0 → (getD bs 0 0 ≡ 3 → met ≡ (x && y)) × ((getD bs 0 0 ≡ 3 → ⊥) → met ≡ (x || y))
+        → Tests t H bs met (1 + m + z)
     tests-operator met c w (term (one s)) tail q = absurd (omega (arith, byte 0 q))
     tests-operator met c w (term (range s i j)) tail q = absurd (omega (arith, byte 0 q))
     tests-operator met c w (a AND b) tail q =

@@ -17,7 +17,7 @@ use Rattle.expression.specs.Bytes.{bytes, Right, SET}
 use Rattle.expression.specs.Scan.{cat, AllFit, bytes-some}
 use Rattle.expression.specs.Unique.{one-expression}
 use Rattle.expression.specs.Fronts.{TermFront, AddsTerm}
-use Rattle.expression.proofs.Scanning.{from, from-drop}
+use Rattle.expression.specs.Scan.{from, from-drop}
 
 -- a member of the SET of one of these
 abbrev pub anySET : Tree → List Expr → Set
@@ -84,7 +84,8 @@ module _ (t : Tree) (bs : List ℕ) where
       pub gathered-and : getD (from bs at) 0 0 ≡ 3 → Gathered t bs r (at + 1)
       gathered-and c = go (g .due) (g .fit) (g .follows) (g .are) (ap (λ (l : List ℕ). getD l 0 0) (sym (from-drop bs at)) ∙ c)
         where
-          go : (es : List Expr) → AllFit Privilege (t .n) (g .depth) es → drop at bs ≡ cat es → ((u : ℕ) → SET t bs u ↔ (marked r u ⊎ anySET t es u)) → getD (drop at bs) 0 0 ≡ 3 → Gathered t bs r (at + 1)
+          go : (es : List Expr) → AllFit Privilege (t .n) (g .depth) es → drop at bs ≡ cat es
+              → ((u : ℕ) → SET t bs u ↔ (marked r u ⊎ anySET t es u)) → getD (drop at bs) 0 0 ≡ 3 → Gathered t bs r (at + 1)
           go [] ok e a c = absurd (omega (arith, ap length e, length-drop at bs))
           go (term (one s) ∷ es) ok e a c = absurd (omega (arith, byte-of 0 e))
           go (term (range s i j) ∷ es) ok e a c = absurd (omega (arith, byte-of 0 e))
@@ -116,7 +117,8 @@ module _ (t : Tree) (bs : List ℕ) where
             → (getD (from bs at) 0 0 ≡ 1 → w ≡ 2) × ((getD (from bs at) 0 0 ≡ 1 → ⊥) → w ≡ 4) → Gathered t bs s (at + w)
         gathered-term s w adds wide = go (g .due) (g .fit) (g .follows) (g .are)
           where
-            made : (x : Term) (es : List Expr) → AllFit Privilege (t .n) (g .depth) es → drop at bs ≡ bytes (term x) ++ cat es → ((u : ℕ) → SET t bs u ↔ (marked r u ⊎ anySET t (term x ∷ es) u)) → length (bytes (term x)) ≡ w → Gathered t bs s (at + w)
+            made : (x : Term) (es : List Expr) → AllFit Privilege (t .n) (g .depth) es → drop at bs ≡ bytes (term x) ++ cat es
+                → ((u : ℕ) → SET t bs u ↔ (marked r u ⊎ anySET t (term x ∷ es) u)) → length (bytes (term x)) ≡ w → Gathered t bs s (at + w)
             made x es ok e a q = record {
               depth = g .depth;
               due = es;
@@ -124,12 +126,15 @@ module _ (t : Tree) (bs : List ℕ) where
               fit = ok;
               follows = further w (bytes (term x)) (cat es) e q;
               are = λ u. iff-trans (a u) (
-                ⊎-elim (λ m. inl (adds x (cat es) (from-drop bs at ∙ e) u .1 (inl m))) (⊎-elim (λ m. inl (adds x (cat es) (from-drop bs at ∙ e) u .1 (inr m))) inr),
+                ⊎-elim
+                    (λ m. inl (adds x (cat es) (from-drop bs at ∙ e) u .1 (inl m)))
+                    (⊎-elim (λ m. inl (adds x (cat es) (from-drop bs at ∙ e) u .1 (inr m))) inr),
                 ⊎-elim (λ m. ⊎-elim inl (λ n. inr (inl n)) (adds x (cat es) (from-drop bs at ∙ e) u .0 m)) (λ m. inr (inr m)),
               );
             }
 
-            go : (es : List Expr) → AllFit Privilege (t .n) (g .depth) es → drop at bs ≡ cat es → ((u : ℕ) → SET t bs u ↔ (marked r u ⊎ anySET t es u)) → Gathered t bs s (at + w)
+            go : (es : List Expr) → AllFit Privilege (t .n) (g .depth) es → drop at bs ≡ cat es
+                → ((u : ℕ) → SET t bs u ↔ (marked r u ⊎ anySET t es u)) → Gathered t bs s (at + w)
             go [] ok e a = absurd (omega (arith, ap length e, length-drop at bs))
             go (term (one x) ∷ es) ok e a = made (one x) es (ok .1) e a (sym (wide .0 (byte-of 0 (from-drop bs at ∙ e))))
             go (term (range x i j) ∷ es) ok e a = made (range x i j) es (ok .1) e a (sym (wide .1 (λ q. omega (arith, byte-of 0 (from-drop bs at ∙ e)))))

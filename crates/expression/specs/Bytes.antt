@@ -1,4 +1,4 @@
--- Expressions in bytes, and what the bytes mean (01, "In bytes, prefix order", "Place for 6").
+-- Expressions in bytes, and what the bytes mean (01, "In bytes, prefix order", "Place for 6"). Definitions only.
 use mathlib.Core.Path.{_≡_}
 use mathlib.Core.List.{List, [], _∷_, _++_}
 use mathlib.Core.Logic.{_⊎_}
@@ -9,10 +9,6 @@ use Rattle.securon.specs.Sets.{Set}
 use Rattle.tree.specs.declared.Tree.{Tree}
 use Rattle.expression.specs.declared.Kind.{Kind}
 use Rattle.expression.specs.declared.Kind.the-variants.{Privilege, Protection}
-use Rattle.expression.specs.declared.Scanned.{Scanned}
-use Rattle.expression.specs.declared.Scanned.the-variants.{Whole, Short, Fault}
-use Rattle.expression.specs.declared.Checked.{Checked}
-use Rattle.expression.specs.declared.Checked.the-variants.{Fine, Wrong}
 use Rattle.expression.specs.Expression.{one, range, Expr, term, _AND_, _OR_, privilegeSET, Meets}
 
 -- the most bytes that an expression has
@@ -69,14 +65,3 @@ MeetsT1 t H bs = (bs ≡ []) ⊎ MeetsBytes t H bs
 -- H meets T2: length 0 is never met
 abbrev pub MeetsT2 : Tree → Set → List ℕ → Type 0
 MeetsT2 t H bs = MeetsBytes t H bs
-
--- what a scan of bytes says, however many they are: right as they are; right so far, but not whole; or the first byte that can't stand
-abbrev pub Finds : Kind → ℕ → ℕ → List ℕ → Scanned → Type 0
-Finds kind n d bs Whole = Right kind n d bs
-Finds kind n d bs Short = FaultAt (Right kind n d) bs (length bs)
-Finds kind n d bs (Fault k) = (k < length bs) × FaultAt (Right kind n d) bs k
-
--- what the check of an expression in a request says: in order, or the place for 6
-abbrev pub Checks : Kind → ℕ → ℕ → List ℕ → Checked → Type 0
-Checks kind n d bs Fine = InOrder kind n d bs
-Checks kind n d bs (Wrong k) = WrongAt kind n d bs k

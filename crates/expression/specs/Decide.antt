@@ -118,7 +118,9 @@ module _ (t : Tree) (tree : IsTree t) where
     (λ e. subst (Reaches (t .parent) a) (eqb-true a b e) here),
     (λ r. eq-eqb a b (reaches-root r (omega arith))),
   )
-  reaches-iff (suc f) a b l h = go (ℕ-discrete a b) (ℕ-discrete a 0) (λ pos. reaches-iff f (getD (t .parent) a 0) b (omega (arith, tree .smaller a pos h)) (omega (arith, tree .smaller a pos h)))
+  reaches-iff (suc f) a b l h = go (ℕ-discrete a b) (ℕ-discrete a 0) (λ pos.
+      let less = tree .smaller a pos h in
+      reaches-iff f (getD (t .parent) a 0) b (omega arith) (omega arith))
     where
       go : Dec (a ≡ b) → Dec (a ≡ 0) → (0 < a → (reachesB (t .parent) f (getD (t .parent) a 0) b ≡ true) ↔ Reaches (t .parent) (getD (t .parent) a 0) b)
           → ((eqb a b || (not (eqb a 0) && reachesB (t .parent) f (getD (t .parent) a 0) b)) ≡ true) ↔ Reaches (t .parent) a b

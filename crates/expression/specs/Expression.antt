@@ -1,4 +1,4 @@
--- Expressions and what they mean (01, "Expressions and what they mean"; 002, 2.3 to 2.5).
+-- Expressions and what they mean (01, "Expressions and what they mean"; 002, 2.3 to 2.5). Definitions only.
 use mathlib.Core.Path.{_≡_}
 use mathlib.Core.Logic.{_⊎_}
 use Prim.Native.Nat.{ℕ, _<_, _≤_}
@@ -39,7 +39,8 @@ privilegeSET t (term x) = termSET t x
 privilegeSET t (a AND b) = privilegeSET t a ∪ privilegeSET t b
 privilegeSET t (a OR b) = empty
 
--- the value of a protection expression is a set of sets; U is one of them: a term gives one singleton per member; OR is the union; AND is all unions of one member from each side
+-- the value of a protection expression is a set of sets; U is one of them:
+-- a term gives one singleton per member; OR is the union; AND is all unions of one member from each side
 abbrev pub Value : Tree → Expr → Marks → Type 0
 Value t (term x) U = (u : ℕ) × termSET t x u × (U ≡ markOf u)
 Value t (a OR b) U = Value t a U ⊎ Value t b U

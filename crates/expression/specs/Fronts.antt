@@ -1,4 +1,4 @@
--- What a test of the expression at the front of some bytes promises. Definitions for the functions inside; nothing above cites them.
+-- What a test of the expression at the front of some bytes promises: definitions for the functions inside. Definitions only.
 use mathlib.Core.Path.{_≡_}
 use mathlib.Core.Bool.{Bool, true}
 use mathlib.Core.List.{List, _++_}
@@ -7,16 +7,9 @@ use Prim.Native.Nat.{ℕ}
 use lib.ListN.{length}
 use Rattle.securon.specs.Sets.{Set, _∪_, _≐_}
 use Rattle.tree.specs.declared.Tree.{Tree}
-use Rattle.tree.specs.declared.Levels.{Levels}
-use Rattle.tree.specs.Tree.{IsTree, LevelsOf}
 use Rattle.expression.specs.declared.Kind.{Kind}
 use Rattle.expression.specs.Expression.{Term, Expr, term, termSET, Meets}
 use Rattle.expression.specs.Bytes.{bytes, Fits}
-
--- a tree with its levels
-pub record Ready (t : Tree) (l : Levels) : Type 0 where
-  pub tree : IsTree t
-  pub levels : LevelsOf t l
 
 -- an expression over the securons below n stands at the front
 pub record Front (n : ℕ) (bs : List ℕ) : Type 0 where

@@ -1,12 +1,14 @@
--- Who meets a protection, by its parts: what all else rests on. Assumes nothing.
+-- Who meets a protection, by its parts: what all else rests on; and who holds the same or more. Assumes nothing.
 use mathlib.Core.Path.{_≡_, refl, ap, _∙_}
 use mathlib.Core.Bool.{Bool, true, false, _||_, or-true}
+use mathlib.Core.List.{List}
 use mathlib.Core.Logic.{_⊎_, inl, inr, ⊎-elim, _↔_}
 use Prim.Native.Nat.{ℕ}
 use borrow.Author.Tests.{eqb-true, eq-eqb}
-use Rattle.securon.specs.Sets.{Set, Marks, markOf, _⊔_}
+use Rattle.securon.specs.Sets.{Set, _⊆_, _≐_, Marks, markOf, _⊔_}
 use Rattle.tree.specs.declared.Tree.{Tree}
 use Rattle.expression.specs.Expression.{Term, Expr, term, _AND_, _OR_, termSET, Meets}
+use Rattle.expression.specs.Bytes.{MeetsBytes, MeetsT1, MeetsT2}
 
 or-cases : (x y : Bool) → (x || y) ≡ true → (x ≡ true) ⊎ (y ≡ true)
 or-cases true y e = inl refl
@@ -29,7 +31,10 @@ module _ (t : Tree) (H : Set) where
   -- OR is met by who meets one side
   pub meets-OR : (a b : Expr) → Meets t H (a OR b) ↔ (Meets t H a ⊎ Meets t H b)
   meets-OR a b = (
-    (λ w. ⊎-elim (λ x. inl (record { chosen = w .chosen; in-value = x; held = w .held })) (λ y. inr (record { chosen = w .chosen; in-value = y; held = w .held })) (w .in-value)),
+    (λ w. ⊎-elim
+        (λ x. inl (record { chosen = w .chosen; in-value = x; held = w .held }))
+        (λ y. inr (record { chosen = w .chosen; in-value = y; held = w .held }))
+        (w .in-value)),
     ⊎-elim
         (λ w. record { chosen = w .chosen; in-value = inl (w .in-value); held = w .held })
         (λ w. record { chosen = w .chosen; in-value = inr (w .in-value); held = w .held }),
@@ -48,3 +53,15 @@ module _ (t : Tree) (H : Set) where
       held = λ i m. ⊎-elim (v .held i) (w .held i) (or-cases (v .chosen i) (w .chosen i) m);
     }),
   )
+
+-- who holds more meets what was met
+pub meets-more : (t : Tree) (H K : Set) (bs : List ℕ) → H ⊆ K → MeetsBytes t H bs → MeetsBytes t K bs
+meets-more t H K bs h (e, q, m) = (e, q, record { chosen = m .chosen; in-value = m .in-value; held = λ u o. h u (m .held u o) })
+
+-- held sets with the same members meet the same
+module _ (t : Tree) (H K : Set) (same : H ≐ K) (bs : List ℕ) where
+  pub same-t2 : MeetsT2 t H bs ↔ MeetsT2 t K bs
+  same-t2 = (meets-more t H K bs (λ u. same u .0), meets-more t K H bs (λ u. same u .1))
+
+  pub same-t1 : MeetsT1 t H bs ↔ MeetsT1 t K bs
+  same-t1 = (⊎-elim inl (λ m. inr (same-t2 .0 m)), ⊎-elim inl (λ m. inr (same-t2 .1 m)))

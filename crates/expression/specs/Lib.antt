@@ -5,7 +5,6 @@ pub mod Laws
 pub mod Scan
 pub mod Unique
 pub mod One
-pub mod Heads
 pub mod Fronts
 pub mod Decide
 pub mod Starred

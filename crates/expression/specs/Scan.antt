@@ -1,12 +1,13 @@
--- What may still follow while the bytes of an expression are met from the front: so many whole expressions. A device of the proofs. Assumes nothing.
+-- What may still follow while the bytes of an expression are met from the front: so many whole expressions. Assumes nothing.
 use mathlib.Core.Path.{_≡_, refl, sym, ap, _∙_, subst}
 use mathlib.Core.List.{List, [], _∷_, _++_, append-assoc, append-nil}
 use mathlib.Core.Logic.{inr, ⊎-elim, _↔_}
-use Prim.Native.Nat.{ℕ, zero, suc, _+_, _<_, _≤_}
+use Prim.Native.Nat.{ℕ, zero, suc, _+_, _-_, _<_, _≤_}
 use native.Mathlib.Nat.{le-refl}
 use native.Mathlib.Omega.{arith}
 use borrow.Author.Needs.{zero≤}
-use lib.ListN.{length, take}
+use lib.ListN.{length, take, drop, length-drop}
+use lib.Seq.{take-all}
 use Rattle.answer.specs.Faults.{Begins, FaultAt}
 use Rattle.answer.specs.Laws.{fault-after, fault-here}
 use Rattle.logic.specs.Iff.{iff-trans}
@@ -204,7 +205,9 @@ module _ (kind : Kind) (n d : ℕ) where
 
     pub fault-securon : (k : ℕ) (l : List ℕ) → ((s : ℕ) (r : List ℕ) → l ≡ s ∷ r → s < n → ⊥) → FaultAt (Rest (suc k)) (2 ∷ l) 1
     fault-securon k l bad = fault-after (Rest (suc k)) (AfterRange k) (2 ∷ []) l (rest-range k)
-        (fault-here (AfterRange k) l (let f = fill some k in (0 ∷ 0 ∷ 0 ∷ f .0, (some, (zero≤, ((zero≤, zero≤), f .1))))) (λ x r t e w. bad x r e (w .0)) (λ e w. w))
+        (fault-here (AfterRange k) l
+        (let f = fill some k in (0 ∷ 0 ∷ 0 ∷ f .0, (some, (zero≤, ((zero≤, zero≤), f .1)))))
+        (λ x r t e w. bad x r e (w .0)) (λ e w. w))
 
     pub fault-from : (k s : ℕ) (l : List ℕ) → s < n → ((i : ℕ) (r : List ℕ) → l ≡ i ∷ r → i ≤ d → ⊥) → FaultAt (Rest (suc k)) (2 ∷ s ∷ l) 2
     fault-from k s l h bad = fault-after (Rest (suc k)) (AfterSecuron k) (2 ∷ s ∷ []) l
@@ -235,6 +238,16 @@ module _ (kind : Kind) (n d : ℕ) where
     where
       go : (k : ℕ) (w : Begins (Right kind n d) (take (k + 1) (x ∷ l))) → take (k + 1) (x ∷ l) ++ w .0 ≡ [] → ⊥
       go k w e = let q : k + 1 ≡ suc k = omega arith in cons-nil (rw q at e)
+
+-- the bytes from `at` on, as the code lends them
+abbrev pub from : List ℕ → ℕ → List ℕ
+from bs at = take (length bs - at) (drop at bs)
+
+pub from-drop : (bs : List ℕ) (at : ℕ) → from bs at ≡ drop at bs
+from-drop bs at = take-all (length bs - at) (drop at bs) (rw length-drop (le-refl (length bs - at)))
+
+pub from-length : (bs : List ℕ) (at : ℕ) → length (from bs at) ≡ length bs - at
+from-length bs at = ap length (from-drop bs at) ∙ length-drop at bs
 
 -- a list of length 0 is none
 pub nil-of : (l : List ℕ) → length l ≡ 0 → l ≡ []

@@ -15,7 +15,8 @@ use Rattle.expression.specs.Expression.{Expr, privilegeSET, Meets}
 use Rattle.expression.specs.Bytes.{bytes, SET, MeetsT1, MeetsT2}
 use Rattle.expression.specs.Scan.{bytes-some}
 use Rattle.expression.specs.Unique.{one-expression}
-use Rattle.expression.specs.Decide.{NamedBelow, namedB, named-true, reachesB, levelB, anyB, allB, betweenB, inTermB, inB, metB, both-true, any-iff, all-iff, in-below, in-iff, met-iff}
+use Rattle.expression.specs.Decide.{NamedBelow, namedB, named-true, reachesB, levelB, anyB, allB, betweenB, inTermB, inB, metB}
+use Rattle.expression.specs.Decide.{both-true, any-iff, all-iff, in-below, in-iff, met-iff}
 use Rattle.expression.specs.Starred.{park, these, Case, is-set, t1, t1-nobody, e-has, e-everybody, t2-bars, g-bars, Says, Means, cases, AllMean}
 
 unfoldable pub belowB : List ℕ → Bool
@@ -140,7 +141,8 @@ right-means (t1-nobody e) h =
     nobody e (named-true 8 e (w .0)) (beq-true (metB park (λ u. true) e) false (w .1))
 right-means (e-has l e b) h =
     let w = both-true (namedB 8 e) (Bool·beq (allB (λ u. not (inB park e u) || these l u) 8) b) h in
-    says (allB (λ u. not (inB park e u) || these l u) 8) b (has-iff e (named-true 8 e (w .0)) (these l)) (beq-true (allB (λ u. not (inB park e u) || these l u) 8) b (w .1))
+    let test = allB (λ u. not (inB park e u) || these l u) 8 in
+    says test b (has-iff e (named-true 8 e (w .0)) (these l)) (beq-true test b (w .1))
 right-means (e-everybody e) h =
     let w = both-true (namedB 8 e) (Bool·beq (anyB (inB park e) 8) false) h in
     everybody e (named-true 8 e (w .0)) (beq-true (anyB (inB park e) 8) false (w .1))
@@ -149,7 +151,8 @@ right-means (t2-bars l e b) h =
     says (metB park (these l) e) b (met-t2 e (named-true 8 e (w .0)) (these l)) (beq-true (metB park (these l) e) b (w .1))
 right-means (g-bars l e b) h =
     let w = both-true (namedB 8 e) (Bool·beq (anyB (λ u. inB park e u && these l u) 8) b) h in
-    says (anyB (λ u. inB park e u && these l u) 8) b (shares-iff e (named-true 8 e (w .0)) (these l)) (beq-true (anyB (λ u. inB park e u && these l u) 8) b (w .1))
+    let test = anyB (λ u. inB park e u && these l u) 8 in
+    says test b (shares-iff e (named-true 8 e (w .0)) (these l)) (beq-true test b (w .1))
 
 pub all-mean : (cs : List Case) → allRight cs ≡ true → AllMean cs
 unfolding allRight

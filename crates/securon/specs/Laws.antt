@@ -1,4 +1,4 @@
--- The laws of marks, once over any number of them. Assumes nothing.
+-- The laws of marks, once over any number of them, and of sets with the same members. Assumes nothing.
 use mathlib.Core.Path.{_≡_, refl, sym, _∙_, subst}
 use mathlib.Core.Bool.{Bool, true, false, false≢true}
 use mathlib.Core.List.{List, [], _∷_}
@@ -7,9 +7,9 @@ use Prim.Native.Nat.{ℕ, zero, suc, _+_, _<_, _≤_, suc-le-suc}
 use native.Mathlib.Nat.{zero-lt-suc, not-suc-le-zero}
 use native.Mathlib.Decide.{ℕ-discrete}
 use native.Mathlib.Omega.{arith}
-use lib.ListN.{length, set, replicate, length-set}
-use lib.Seq.{getD-set-same, getD-set-other}
-use Rattle.securon.specs.Sets.{Set, only, _∪_, _≐_, marked}
+use lib.ListN.{length, getD, set, replicate, length-set}
+use lib.Seq.{getD-set-same, getD-set-other, ext-getD}
+use Rattle.securon.specs.Sets.{Set, only, _∪_, _⊆_, _≐_, Apart, marked}
 use Rattle.logic.specs.Iff.{iff-trans}
 
 -- who is marked stands among the marks
@@ -80,3 +80,20 @@ module _ {a : List Bool} {B : Set} {r : List Bool} {k : ℕ} (j : Joined a B r k
   -- where nobody of B stands from k on, r is the union
   pub joined-all : ((u : ℕ) → B u → u < k) → marked r ≐ marked a ∪ B
   joined-all h u = iff-trans (j .are u) (⊎-elim inl (λ w. inr (w .0)), ⊎-elim inl (λ m. inr (m, h u m)))
+
+-- two arrays of marks of one length with the same members are one: a promise that names a set's members leaves one set
+pub one-set : (a b : List Bool) → length a ≡ length b → marked a ≐ marked b → a ≡ b
+one-set a b e h = ext-getD false a b e (λ u _. same (getD a u false) (getD b u false) (h u))
+  where
+    same : (x y : Bool) → (x ≡ true) ↔ (y ≡ true) → x ≡ y
+    same true y i = sym (i .0 refl)
+    same false true i = absurd (false≢true (i .1 refl))
+    same false false i = refl
+
+-- part and apart say of sets with the same members the same
+module _ {A B C D : Set} (p : A ≐ B) (q : C ≐ D) where
+  pub same-part : (A ⊆ C) ↔ (B ⊆ D)
+  same-part = ((λ h u b. q u .0 (h u (p u .1 b))), λ h u a. q u .1 (h u (p u .0 a)))
+
+  pub same-apart : Apart A C ↔ Apart B D
+  same-apart = ((λ h u b d. h u (p u .1 b) (q u .1 d)), λ h u a c. h u (p u .0 a) (q u .0 c))

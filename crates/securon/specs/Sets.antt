@@ -9,9 +9,9 @@ use lib.ListN.{getD}
 
 infixl 60 _∪_ _⊔_
 infix 40 _⊆_ _≐_
--- the most securons that a tree has (01, "The tree": 1 to 64)
-abbrev pub securons : ℕ
-securons = 64
+-- the room of a set: the numbers that a securon can have are those below. A set has a mark for each of them
+abbrev pub setRoom : ℕ
+setRoom = 64
 
 -- a set of securons: who is in it
 abbrev pub Set : Type 1

@@ -1,17 +1,17 @@
 -- Laws of walking up and of levels. Assumes nothing.
-use mathlib.Core.Path.{_≡_, refl, ap, subst}
+use mathlib.Core.Path.{_≡_, refl, sym, ap, ap₂, _∙_, subst}
 use mathlib.Core.List.{List}
 use mathlib.Core.Logic.{inl, inr, ⊎-elim, _↔_}
 use Prim.Native.Nat.{ℕ, suc, _<_, _≤_}
 use native.Mathlib.Nat.{le-refl}
 use native.Mathlib.Decide.{decLt}
 use native.Mathlib.Omega.{arith}
-use lib.ListN.{getD}
-use Rattle.securon.specs.Sets.{securons}
+use lib.ListN.{length, getD}
+use lib.Seq.{ext-getD}
+use Rattle.securon.specs.declared.Level.{Level}
 use Rattle.tree.specs.declared.Tree.{Tree}
-use Rattle.tree.specs.declared.Shape.{Shape}
-use Rattle.tree.specs.declared.Shape.the-variants.{Grown, CountWrong, ParentWrong}
-use Rattle.tree.specs.Tree.{Reaches, here, up, Related, HasLevel, root, child, Climbs, IsTree, IsDepth, Shaped}
+use Rattle.tree.specs.declared.Levels.{Levels}
+use Rattle.tree.specs.Tree.{Reaches, here, up, Related, HasLevel, root, child, Climbs, IsTree, IsDepth, rootLevel, levelIn, LevelsOf}
 
 -- a walk that is not at its end goes on from the parent
 pub reaches-up : {p : List ℕ} {a b : ℕ} → Reaches p a b → (a ≡ b → ⊥) → Reaches p (getD p a 0) b
@@ -63,19 +63,16 @@ one-depth {t} {d} {e} p q =
     let b = q .deepest in
     omega (arith, q .largest (a .0) d (a .1) (a .2), p .largest (b .0) e (b .1) (b .2))
 
--- a count and parents have one shape
-pub one-shape : (t : Tree) (a b : Shape) → Shaped t a → Shaped t b → a ≡ b
-one-shape t Grown Grown p q = refl
-one-shape t Grown CountWrong p q = absurd (q (p .count))
-one-shape t Grown (ParentWrong k) p q = absurd (omega (arith, p .smaller k (q .1) (q .2)))
-one-shape t CountWrong Grown p q = absurd (p (q .count))
-one-shape t CountWrong CountWrong p q = refl
-one-shape t CountWrong (ParentWrong k) p q = absurd (p (q .0))
-one-shape t (ParentWrong k) Grown p q = absurd (omega (arith, q .smaller k (p .1) (p .2)))
-one-shape t (ParentWrong k) CountWrong p q = absurd (q (p .0))
-one-shape t (ParentWrong k) (ParentWrong m) p q = ap ParentWrong (go (decLt k m) (decLt m k))
+-- levels with the same number are one
+same-level : (a b : Level) → a .0 ≡ b .0 → a ≡ b
+same-level a b e = ap (λ (k : ℕ). record { 0 = k }) e
+
+-- a tree's levels leave one value, in arrays of one length
+pub one-levels : (t : Tree) (a b : Levels) → length (a .of) ≡ length (b .of) → LevelsOf t a → LevelsOf t b → a ≡ b
+one-levels t a b long p q =
+    let of = ext-getD rootLevel (a .of) (b .of) long (λ u _. same-level _ _ (go u (decLt u (t .n)))) in
+    ap₂ (λ (l : List Level) (d : Level). record { of = l; depth = d }) of (same-level _ _ (one-depth (p .depth) (q .depth)))
   where
-    go : Dec (k < m) → Dec (m < k) → k ≡ m
-    go (yes h) o = absurd (omega (arith, q .3 k (p .1) h))
-    go (no n) (yes h) = absurd (omega (arith, p .3 m (q .1) h))
-    go (no n) (no o) = omega arith
+    go : (u : ℕ) → Dec (u < t .n) → levelIn a u ≡ levelIn b u
+    go u (yes h) = one-level (p .level u h) (q .level u h) refl
+    go u (no n) = p .unused u (omega arith) ∙ sym (q .unused u (omega arith))

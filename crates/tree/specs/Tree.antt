@@ -1,13 +1,17 @@
--- The tree of securons (01, "The tree"; 002, 2.1).
+-- The tree of securons (01, "The tree"; 002, 2.1). Definitions only.
+use mathlib.Core.Path.{_≡_}
 use mathlib.Core.List.{List}
 use mathlib.Core.Logic.{_⊎_}
 use Prim.Native.Nat.{ℕ, suc, _<_, _≤_}
 use lib.ListN.{getD}
-use Rattle.securon.specs.Sets.{securons}
+use Rattle.securon.specs.declared.Level.{Level}
+use Rattle.securon.specs.Sets.{setRoom}
 use Rattle.tree.specs.declared.Tree.{Tree}
 use Rattle.tree.specs.declared.Levels.{Levels}
-use Rattle.tree.specs.declared.Shape.{Shape}
-use Rattle.tree.specs.declared.Shape.the-variants.{Grown, CountWrong, ParentWrong}
+
+-- the most securons that a tree has: 1 to 64. A set has room for each of them
+abbrev pub mostSecurons : ℕ
+mostSecurons = 64
 
 -- of the securons below k, every other than the root has a parent with a smaller number
 abbrev pub SmallerBelow : List ℕ → ℕ → Type 0
@@ -15,7 +19,7 @@ SmallerBelow parent k = (u : ℕ) → 0 < u → u < k → getD parent u 0 < u
 
 -- the count of securons is in range: 1 to 64
 abbrev pub InRange : ℕ → Type 0
-InRange n = (0 < n) × (n ≤ securons)
+InRange n = (0 < n) × (n ≤ mostSecurons)
 
 -- n securons, 1 to 64, numbered 0 to n-1; securon 0 is the root; every other has a parent with a smaller number
 pub record IsTree (t : Tree) : Type 0 where
@@ -24,7 +28,7 @@ pub record IsTree (t : Tree) : Type 0 where
 
 -- a securon from which every step up goes to a smaller number, so that walking up ends
 pub record Climbs (parent : List ℕ) (a : ℕ) : Type 0 where
-  pub few : a < securons
+  pub few : a < setRoom
   pub smaller : SmallerBelow parent (suc a)
 
 -- walking up parents from the one reaches the other; no step reaches itself
@@ -46,14 +50,21 @@ pub record IsDepth (t : Tree) (d : ℕ) : Type 0 where
   pub deepest : (u : ℕ) × (u < t .n) × HasLevel (t .parent) u d
   pub largest : (u k : ℕ) → u < t .n → HasLevel (t .parent) u k → k ≤ d
 
--- the levels of all securons of t, and its depth
+-- the root's level, and what stands in the room that no securon has
+abbrev pub rootLevel : Level
+rootLevel = record { 0 = 0 }
+
+-- the level of securon u, as it stands in l
+abbrev pub levelIn : Levels → ℕ → ℕ
+levelIn l u = getD (l .of) u rootLevel .0
+
+-- the levels of all securons of t, 0 past the last of them, and its depth
 pub record LevelsOf (t : Tree) (l : Levels) : Type 0 where
-  pub level : (u : ℕ) → u < t .n → HasLevel (t .parent) u (getD (l .of) u 0)
+  pub level : (u : ℕ) → u < t .n → HasLevel (t .parent) u (levelIn l u)
+  pub unused : (u : ℕ) → t .n ≤ u → levelIn l u ≡ 0
   pub depth : IsDepth t (l .depth .0)
 
--- what a count and parents are: a tree; a count out of range; or the first parent that is not smaller
-abbrev pub Shaped : Tree → Shape → Type 0
-Shaped t Grown = IsTree t
-Shaped t CountWrong = InRange (t .n) → ⊥
-Shaped t (ParentWrong k) =
-    InRange (t .n) × (0 < k) × (k < t .n) × SmallerBelow (t .parent) k × (k ≤ getD (t .parent) k 0)
+-- a tree with its levels
+pub record Ready (t : Tree) (l : Levels) : Type 0 where
+  pub tree : IsTree t
+  pub levels : LevelsOf t l

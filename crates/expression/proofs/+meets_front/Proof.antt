@@ -1,10 +1,11 @@
--- `expression::meets_front` meets its contract: a term is tested, and an operator joins the answers on its operands. The measure is the number of the remaining bytes. Assumes nothing.
+-- `expression::meets_front` meets its contract: a term is tested, and an operator joins the answers on its operands.
+-- The measure is the number of the remaining bytes. Assumes nothing.
 use mathlib.Core.Path.{_≡_, sym, subst}
 use mathlib.Core.List.{_++_}
 use native.Mathlib.Omega.{arith}
 use borrow.Author.Needs.{needs}
 use lib.ListN.{length}
-use Rattle.expression.proofs.Scanning.{from, from-length}
+use Rattle.expression.specs.Scan.{from, from-length}
 use Rattle.expression.specs.Bytes.{bytes}
 use Rattle.expression.specs.Fronts.{Front}
 use Rattle.expression.proofs.Fronts.{front-some, front-term, front-operator, tests-term, tests-operator}
@@ -67,8 +68,9 @@ meets-front-part-meets-front-end t c = search needs
 
 meets-front-meets-front-requires : (t : ℕ) → meets-front-lts.Need-meets-front-requires (claims t) (meets-front-at t) meets-front.Post
 meets-front-meets-front-requires t c κs =
-    let o = front-operator (c .before .before .before .before .pre .1 .1) (omega arith) in
-    (omega (arith, from-length (c .before .before .before .before .args .rest .now) 1, front-some (c .before .before .before .before .pre .1 .1), c .before .before .before .before .pre .0), (c .before .before .before .before .pre .1 .0, o .left))
+    let s = c .before .before .before .before in
+    let o = front-operator (s .pre .1 .1) (omega arith) in
+    (omega (arith, from-length (s .args .rest .now) 1, front-some (s .pre .1 .1), s .pre .0), (s .pre .1 .0, o .left))
 
 meets-front-add-mid : (t : ℕ) → meets-front-lts.Need-add-mid (claims t) (meets-front-at t) meets-front.Post
 meets-front-add-mid t c =
@@ -93,23 +95,30 @@ meets-front-part-meets-front-end-2 t c = search needs
 
 meets-front-meets-front-requires-2 : (t : ℕ) → meets-front-lts.Need-meets-front-requires-2 (claims t) (meets-front-at t) meets-front.Post
 meets-front-meets-front-requires-2 t c κs =
-    let o = front-operator (c .before .before .before .before .before .before .before .pre .1 .1) (omega arith) in
-    let q = c .before .before .meets-front .ensures (o .a) _ (o .left-is) .0 in
-    (omega (arith, from-length (c .before .before .before .before .before .before .before .args .rest .now) (1 + c .before .before .meets-front .result .used), front-some (c .before .before .before .before .before .before .before .pre .1 .1), c .before .before .before .before .before .before .before .pre .0), (c .before .before .before .before .before .before .before .pre .1 .0, subst (λ (k : ℕ). Front (c .before .before .before .before .before .before .before .args .t .n) (from (c .before .before .before .before .before .before .before .args .rest .now) (1 + k))) (sym q) (o .right)))
+    let s = c .before .before .before .before .before .before .before in
+    let o = front-operator (s .pre .1 .1) (omega arith) in
+    let left = c .before .before .meets-front in
+    let q = left .ensures (o .a) _ (o .left-is) .0 in
+    let right = subst (λ (k : ℕ). Front (s .args .t .n) (from (s .args .rest .now) (1 + k))) (sym q) (o .right) in
+    (omega (arith, from-length (s .args .rest .now) (1 + left .result .used), front-some (s .pre .1 .1), s .pre .0), (s .pre .1 .0, right))
 
 meets-front-joined-requires : (t : ℕ) → meets-front-lts.Need-joined-requires (claims t) (meets-front-at t) meets-front.Post
 meets-front-joined-requires t c κs = search needs
 
 meets-front-add-t15 : (t : ℕ) → meets-front-lts.Need-add-t15 (claims t) (meets-front-at t) meets-front.Post
 meets-front-add-t15 t c =
-    let o = front-operator (c .before .before .before .before .before .before .before .before .before .before .pre .1 .1) (omega arith) in
+    let s = c .before .before .before .before .before .before .before .before .before .before in
+    let o = front-operator (s .pre .1 .1) (omega arith) in
     let q = c .before .before .before .before .before .meets-front .ensures (o .a) _ (o .left-is) .0 in
-    let r = c .before .before .meets-front2 .ensures (o .b) _ (subst (λ (k : ℕ). from (c .before .before .before .before .before .before .before .before .before .before .args .rest .now) (1 + k) ≡ bytes (o .b) ++ o .tail) (sym q) (o .right-is)) .0 in
-    omega (arith, o .long, c .before .before .before .before .before .before .before .before .before .before .good)
+    let at-right = subst (λ (k : ℕ). from (s .args .rest .now) (1 + k) ≡ bytes (o .b) ++ o .tail) (sym q) (o .right-is) in
+    let r = c .before .before .meets-front2 .ensures (o .b) _ at-right .0 in
+    omega (arith, o .long, s .good)
 
 meets-front-returns-2 : (t : ℕ) → meets-front-lts.Need-returns-2 (claims t) (meets-front-at t) meets-front.Post
 meets-front-returns-2 t c =
-    tests-operator _ _ _ _ _ _ _ (c .before .before .before .before .before .meets-front .ensures) (c .before .before .meets-front2 .ensures) _ (omega arith) (c .before .joined .ensures)
+    let left = c .before .before .before .before .before .meets-front in
+    let right = c .before .before .meets-front2 in
+    tests-operator _ _ _ _ _ _ _ (left .ensures) (right .ensures) _ (omega arith) (c .before .joined .ensures)
 
 pub +meets-front-spec : {M : Type 1} → statement M
 +meets-front-spec = close μ-meets-front λ t. meets-front-lts.spec (claims t)

@@ -38,8 +38,9 @@ between-requires c κs =
 
 returns : tie.Need-returns Inv-loop μ-loop
 returns c =
-    let i = iff-trans (c .before .between .ensures) (between-iff (c .before .before .before .before .before .before .before .before .before .pre .0) _ _ _ _ (omega arith)) in
-    ((λ _. (c .before .before .before .before .before .before .before .before .loop .k, i .0 (c .if2 .taken), c .before .before .before .before .before .if1 .taken)), λ _. refl)
+    let l = c .before .before .before .before .before .before .before .before in
+    let i = iff-trans (c .before .between .ensures) (between-iff (l .before .pre .0) _ _ _ _ (omega arith)) in
+    ((λ _. (l .loop .k, i .0 (c .if2 .taken), c .before .before .before .before .before .if1 .taken)), λ _. refl)
 
 add-k : tie.Need-add-k Inv-loop μ-loop
 add-k c = omega (arith, c .before .before .before .before .pre .0 .tree .count)

@@ -21,7 +21,10 @@ holds-requires : tie.Need-holds-requires
 holds-requires c κs = let p = c .before .before .before .before .pre in omega (arith, term-named (p .1), p .0 .tree .count)
 
 returns : tie.Need-returns
-returns c = λ x tail e. subst (λ (y : Term). (c .holds .result ≡ true) ↔ ((u : ℕ) × termSET (c .before .before .before .before .before .args .t) y u × marked (c .before .before .before .before .before .args .held .has) u)) (sym (is-one x tail e (c .before .if1 .taken)))
+returns c = λ x tail e.
+    let a = c .before .before .before .before .before .args in
+    subst (λ (y : Term). (c .holds .result ≡ true) ↔ ((u : ℕ) × termSET (a .t) y u × marked (a .held .has) u))
+    (sym (is-one x tail e (c .before .if1 .taken)))
     (iff-trans (c .holds .ensures) ((λ m. (_, refl, m)), λ (u, q, m). rw q at m))
 
 shared-slice-read-t7 : tie.Need-shared-slice-read-t7
@@ -34,7 +37,10 @@ meets-range-requires : tie.Need-meets-range-requires
 meets-range-requires c κs = let p = c .before .before .before .before .before .before .pre in (p .0, term-named (p .1) .1)
 
 returns-2 : tie.Need-returns-2
-returns-2 c = λ x tail e. subst (λ (y : Term). (c .meets-range .result ≡ true) ↔ ((u : ℕ) × termSET (c .before .before .before .before .before .before .before .args .t) y u × marked (c .before .before .before .before .before .before .before .args .held .has) u)) (sym (is-range x tail e (c .before .before .before .if1 .left)))
+returns-2 c = λ x tail e.
+    let a = c .before .before .before .before .before .before .before .args in
+    subst (λ (y : Term). (c .meets-range .result ≡ true) ↔ ((u : ℕ) × termSET (a .t) y u × marked (a .held .has) u))
+    (sym (is-range x tail e (c .before .before .before .if1 .left)))
     (c .meets-range .ensures)
 
 pub meets-term-spec : {M : Type 1} → statement M

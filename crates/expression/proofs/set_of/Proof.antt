@@ -1,11 +1,12 @@
--- `expression::set_of` meets its contract: what was read is in the set, and what is to follow will be. The measure is what is left of the bytes. Assumes nothing.
+-- `expression::set_of` meets its contract: what was read is in the set, and what is to follow will be.
+-- The measure is what is left of the bytes. Assumes nothing.
 use mathlib.Core.Path.{_≡_}
-use Prim.Native.Nat.{ℕ, _<_, _-_}
+use Prim.Native.Nat.{ℕ, _+_, _<_, _-_}
 use native.Mathlib.Decide.{ℕ-discrete}
 use native.Mathlib.Omega.{arith}
 use borrow.Author.Needs.{needs}
 use lib.ListN.{length}
-use Rattle.expression.proofs.Scanning.{from-length}
+use Rattle.expression.specs.Scan.{from-length}
 use Rattle.expression.proofs.Gathering.{Gathered, gathered-start, gathered-end, gathered-and, gathered-front, gathered-term}
 use Rattle.expression.proofs.set_of.Statement.{statement}
 use Rattle.expression.proofs.set_of.Tie as tie
@@ -52,22 +53,37 @@ loop-again : tie.Need-loop-again Inv-loop μ-loop
 loop-again c = gathered-and _ _ (c .before .before .before .before .loop .inv) (omega arith) (c .if1 .taken)
 
 with-term-requires : tie.Need-with-term-requires Inv-loop μ-loop
-with-term-requires c κs = (c .before .before .before .before .before .before .before .pre .0, gathered-front _ _ (c .before .before .before .before .loop .inv) (omega arith) (c .if1 .left))
+with-term-requires c κs =
+    let l = c .before .before .before .before in
+    (l .before .before .before .pre .0, gathered-front _ _ (l .loop .inv) (omega arith) (c .if1 .left))
+
+-- the place that the loop had reached, and the call
+abbrev reached : tie.After-width Inv-loop μ-loop → tie.At-loop Inv-loop μ-loop
+reached c = c .before .before .before .before .before .before
+
+abbrev called : tie.After-width Inv-loop μ-loop → tie.Start Inv-loop μ-loop
+called c = reached c .before .before .before
+
+-- a term was added, and the place is past it
+added : (c : tie.After-width Inv-loop μ-loop)
+    → Gathered (called c .args .t) (called c .args .b .now) (c .before .with-term .result .has) (reached c .loop .at + c .width .result)
+added c =
+    let w = c .before .with-term in
+    gathered-term _ _ (reached c .loop .inv) (omega arith) (c .before .before .if1 .left) (w .result .has) (c .width .result) (w .ensures) (c .width .ensures)
 
 width-requires : tie.Need-width-requires Inv-loop μ-loop
 width-requires c κs = search needs
 
 add-at-2 : tie.Need-add-at-2 Inv-loop μ-loop
-add-at-2 c = let g = gathered-term _ _ (c .before .before .before .before .before .before .loop .inv) (omega arith) (c .before .before .if1 .left) (c .before .with-term .result .has) (c .width .result) (c .before .with-term .ensures) (c .width .ensures) in omega (arith, g .within, c .before .before .before .before .before .before .before .before .before .good)
+add-at-2 c = omega (arith, added c .within, called c .good)
 
 loop-less-2 : tie.Need-loop-less-2 Inv-loop μ-loop
 loop-less-2 c =
-    let g = gathered-term _ _ (c .before .before .before .before .before .before .loop .inv) (omega arith) (c .before .before .if1 .left) (c .before .with-term .result .has) (c .width .result) (c .before .with-term .ensures) (c .width .ensures) in
     let some : 0 < c .width .result = wide (c .width .ensures) in
-    omega (arith, g .within)
+    omega (arith, added c .within)
 
 loop-again-2 : tie.Need-loop-again-2 Inv-loop μ-loop
-loop-again-2 c = gathered-term _ _ (c .before .before .before .before .before .before .loop .inv) (omega arith) (c .before .before .if1 .left) (c .before .with-term .result .has) (c .width .result) (c .before .with-term .ensures) (c .width .ensures)
+loop-again-2 c = added c
 
 returns : tie.Need-returns Inv-loop μ-loop
 returns c = gathered-end _ _ (c .before .loop .inv) (omega arith)

@@ -5,7 +5,7 @@ use Prim.Native.Nat.{_≤_, _-_}
 use native.Mathlib.Omega.{arith}
 use borrow.Author.Needs.{needs}
 use lib.ListN.{length}
-use Rattle.securon.specs.Sets.{securons}
+use Rattle.securon.specs.Sets.{setRoom}
 use Rattle.logic.specs.Iff.{iff-trans, not-then-false}
 use Rattle.securon.specs.Laws.{Joined, joined-none, joined-skip, joined-mark, joined-all}
 use Rattle.expression.specs.Expression.{Between}
@@ -45,10 +45,15 @@ loop-less c = omega arith
 loop-again : tie.Need-loop-again Inv-loop μ-loop
 loop-again c =
     let p = c .before .before .before .before .before .before .before .pre in
-    let g : length (c .before .before .before .before .before .before .before .args .set .has) ≡ securons = search needs in
+    let g : length (c .before .before .before .before .before .before .before .args .set .has) ≡ setRoom = search needs in
     let j = c .before .before .before .before .before .before .loop .inv .1 in
-    let i = iff-trans (c .before .between .ensures) (between-iff (p .0) _ _ _ _ (omega arith)) in
-    (omega arith, ⊎-elim (λ w. rw (w .1) (joined-mark j (omega (arith, p .0 .tree .count)) (i .0 (w .0 .taken)))) (λ w. rw (w .1) (joined-skip j (not-then-false i (w .0 .left)))) (c .if1 .came))
+    let i = iff-trans (c .before .between .ensures) (between-iff (p .0) _ _ _ _ (omega arith)) in (
+      omega arith,
+      ⊎-elim
+          (λ w. rw (w .1) (joined-mark j (omega (arith, p .0 .tree .count)) (i .0 (w .0 .taken))))
+          (λ w. rw (w .1) (joined-skip j (not-then-false i (w .0 .left))))
+          (c .if1 .came),
+    )
 
 returns : tie.Need-returns Inv-loop μ-loop
 returns c = joined-all (c .before .loop .inv .1) (λ u b. omega (arith, b .present))

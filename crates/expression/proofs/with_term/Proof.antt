@@ -17,7 +17,9 @@ with-requires : tie.Need-with-requires
 with-requires c κs = let p = c .before .before .before .before .pre in omega (arith, term-named (p .1), p .0 .tree .count)
 
 returns : tie.Need-returns
-returns c = λ x tail e. subst (λ (y : Term). marked (c .with .result .has) ≐ marked (c .before .before .before .before .before .args .set .has) ∪ termSET (c .before .before .before .before .before .args .t) y) (sym (is-one x tail e (c .before .if1 .taken)))
+returns c = λ x tail e.
+    let a = c .before .before .before .before .before .args in
+    subst (λ (y : Term). marked (c .with .result .has) ≐ marked (a .set .has) ∪ termSET (a .t) y) (sym (is-one x tail e (c .before .if1 .taken)))
     (c .with .ensures)
 
 shared-slice-read-t7 : tie.Need-shared-slice-read-t7
@@ -30,7 +32,10 @@ with-range-requires : tie.Need-with-range-requires
 with-range-requires c κs = let p = c .before .before .before .before .before .before .pre in (p .0, term-named (p .1) .1)
 
 returns-2 : tie.Need-returns-2
-returns-2 c = λ x tail e. subst (λ (y : Term). marked (c .with-range .result .has) ≐ marked (c .before .before .before .before .before .before .before .args .set .has) ∪ termSET (c .before .before .before .before .before .before .before .args .t) y) (sym (is-range x tail e (c .before .before .before .if1 .left)))
+returns-2 c = λ x tail e.
+    let a = c .before .before .before .before .before .before .before .args in
+    subst (λ (y : Term). marked (c .with-range .result .has) ≐ marked (a .set .has) ∪ termSET (a .t) y)
+    (sym (is-range x tail e (c .before .before .before .if1 .left)))
     (c .with-range .ensures)
 
 pub with-term-spec : {M : Type 1} → statement M

@@ -7,49 +7,49 @@ use native.Mathlib.Omega.{arith}
 use borrow.Author.Needs.{needs}
 use borrow.Author.Tests.{not-true, not-false}
 use lib.ListN.{length}
-use Rattle.securon.specs.Sets.{securons, marked}
+use Rattle.securon.specs.Sets.{setRoom, marked}
 use Rattle.logic.specs.Every.{Flag, flag-none, flag-keep, flag-drop, flag-all}
 use Rattle.securon.specs.Laws.{beyond}
 use Rattle.securon.proofs.SecuronSet.part.Statement.{statement}
 use Rattle.securon.proofs.SecuronSet.part.Tie as tie
-use Rattle.securon.proofs.SecuronSet.part.Reads as reads
-use Rattle.securon.proofs.SecuronSet.part.Lts as lts
 
 abbrev Inv-loop : tie.InvT-loop
-Inv-loop self whole ok₀ k₀ ok k = (k ≤ securons) × Flag (λ (u : ℕ). marked (self .has) u → marked (whole .has) u) k ok
+Inv-loop self whole ok₀ k₀ ok k = (k ≤ setRoom) × Flag (λ (u : ℕ). marked (self .has) u → marked (whole .has) u) k ok
 
 abbrev μ-loop : tie.MeasureT-loop
-μ-loop self whole ok₀ k₀ ok k = securons - k
+μ-loop self whole ok₀ k₀ ok k = setRoom - k
 
--- src/lib.rt:87:9
 loop-holds : tie.Need-loop-holds Inv-loop μ-loop
 loop-holds c = (search needs, flag-none _)
 
--- src/lib.rt:88:16
 element-copy-out-if1 : tie.Need-element-copy-out-if1 Inv-loop μ-loop
 element-copy-out-if1 c = omega arith
 
--- src/lib.rt:89:21
 element-copy-out-if2 : tie.Need-element-copy-out-if2 Inv-loop μ-loop
 element-copy-out-if2 c = omega arith
 
--- src/lib.rt:87:13
 add-k : tie.Need-add-k Inv-loop μ-loop
 add-k c = omega arith
 
--- src/lib.rt:87:9
 loop-less : tie.Need-loop-less Inv-loop μ-loop
 loop-less c = omega arith
 
--- src/lib.rt:87:9
 loop-again : tie.Need-loop-again Inv-loop μ-loop
 loop-again c =
-    let f = c .before .before .before .loop .inv .1 in
-    (omega arith, ⊎-elim (λ w. rw (w .3) (flag-drop f (λ h. false≢true (sym (not-true _ (w .2 .taken)) ∙ h (w .0 .taken))))) (⊎-elim (λ w. rw (w .3) (flag-keep f (λ m. not-false _ (w .2 .left)))) (λ w. rw (w .1) (flag-keep f (λ m. absurd (false≢true (sym (w .0 .left) ∙ m)))))) (c .if1 .came))
+    let f = c .before .before .before .loop .inv .1 in (
+      omega arith,
+      ⊎-elim
+          (λ w. rw (w .3) (flag-drop f (λ h. false≢true (sym (not-true _ (w .2 .taken)) ∙ h (w .0 .taken)))))
+          (⊎-elim
+          (λ w. rw (w .3) (flag-keep f (λ m. not-false _ (w .2 .left))))
+          (λ w. rw (w .1) (flag-keep f (λ m. absurd (false≢true (sym (w .0 .left) ∙ m))))))
+          (c .if1 .came),
+    )
 
--- src/lib.rt:83:5
 returns : tie.Need-returns Inv-loop μ-loop
-returns c = flag-all (c .before .loop .inv .1) (λ u h m. let g : length (c .before .before .args .t1 .has) ≡ securons = search needs in absurd (beyond (c .before .before .args .t1 .has) u (omega arith) m))
+returns c =
+    let g : length (c .before .before .args .t1 .has) ≡ setRoom = search needs in
+    flag-all (c .before .loop .inv .1) (λ u h m. absurd (beyond (c .before .before .args .t1 .has) u (omega arith) m))
 
 pub part-spec : {M : Type 1} → statement M
 part-spec =

@@ -6,50 +6,46 @@ use Prim.Native.Nat.{_≤_, _-_}
 use native.Mathlib.Omega.{arith}
 use borrow.Author.Needs.{needs}
 use lib.ListN.{length}
-use Rattle.securon.specs.Sets.{securons, marked}
+use Rattle.securon.specs.Sets.{setRoom, marked}
 use Rattle.securon.specs.Laws.{within, Joined, joined-none, joined-skip, joined-mark, joined-all}
 use Rattle.securon.proofs.SecuronSet.union.Statement.{statement}
 use Rattle.securon.proofs.SecuronSet.union.Tie as tie
-use Rattle.securon.proofs.SecuronSet.union.Reads as reads
-use Rattle.securon.proofs.SecuronSet.union.Lts as lts
 
 abbrev Inv-loop : tie.InvT-loop
-Inv-loop more r₀ k₀ r k = (k ≤ securons) × Joined (r₀ .has) (marked (more .has)) (r .has) k
+Inv-loop more r₀ k₀ r k = (k ≤ setRoom) × Joined (r₀ .has) (marked (more .has)) (r .has) k
 
 abbrev μ-loop : tie.MeasureT-loop
-μ-loop more r₀ k₀ r k = securons - k
+μ-loop more r₀ k₀ r k = setRoom - k
 
--- src/lib.rt:74:9
 loop-holds : tie.Need-loop-holds Inv-loop μ-loop
 loop-holds c = (search needs, joined-none _ _)
 
--- src/lib.rt:75:16
 element-copy-out-if1 : tie.Need-element-copy-out-if1 Inv-loop μ-loop
 element-copy-out-if1 c = omega arith
 
--- src/lib.rt:76:17
 element-write-r : tie.Need-element-write-r Inv-loop μ-loop
 element-write-r c = omega arith
 
--- src/lib.rt:74:13
 add-k : tie.Need-add-k Inv-loop μ-loop
 add-k c = omega arith
 
--- src/lib.rt:74:9
 loop-less : tie.Need-loop-less Inv-loop μ-loop
 loop-less c = omega arith
 
--- src/lib.rt:74:9
 loop-again : tie.Need-loop-again Inv-loop μ-loop
 loop-again c =
-    let g : length (c .before .before .before .before .args .self .has) ≡ securons = search needs in
-    let j = c .before .before .before .loop .inv .1 in
-    (omega arith, ⊎-elim (λ w. rw (w .1) (joined-mark j (omega arith) (w .0 .taken))) (λ w. rw (w .1) (joined-skip j (λ m. false≢true (sym (w .0 .left) ∙ m)))) (c .if1 .came))
+    let g : length (c .before .before .before .before .args .self .has) ≡ setRoom = search needs in
+    let j = c .before .before .before .loop .inv .1 in (
+      omega arith,
+      ⊎-elim
+          (λ w. rw (w .1) (joined-mark j (omega arith) (w .0 .taken)))
+          (λ w. rw (w .1) (joined-skip j (λ m. false≢true (sym (w .0 .left) ∙ m))))
+          (c .if1 .came),
+    )
 
--- src/lib.rt:70:5
 returns : tie.Need-returns Inv-loop μ-loop
 returns c =
-    let g : length (c .before .before .args .t2 .has) ≡ securons = search needs in
+    let g : length (c .before .before .args .t2 .has) ≡ setRoom = search needs in
     joined-all (c .before .loop .inv .1) (λ u m. omega (arith, within (c .before .before .args .t2 .has) u m))
 
 pub union-spec : {M : Type 1} → statement M

@@ -1,0 +1,4 @@
+pub mod Order
+pub mod Conditions
+pub mod Heads
+pub mod Laws
