@@ -14,10 +14,9 @@ use Rattle.tree.specs.declared.Tree.{Tree}
 use Rattle.expression.specs.declared.Kind.the-variants.{Privilege}
 use Rattle.expression.specs.Expression.{Term, one, range, Expr, term, _AND_, _OR_, privilegeSET}
 use Rattle.expression.specs.Bytes.{bytes, Right, SET}
-use Rattle.expression.specs.Scan.{cat, AllFit, bytes-some}
+use Rattle.expression.specs.Scan.{cat, AllFit, bytes-some, from, from-drop}
 use Rattle.expression.specs.Unique.{one-expression}
 use Rattle.expression.specs.Fronts.{TermFront, AddsTerm}
-use Rattle.expression.specs.Scan.{from, from-drop}
 
 -- a member of the SET of one of these
 abbrev pub anySET : Tree → List Expr → Set

@@ -16,7 +16,7 @@ use Rattle.tree.specs.declared.Tree.{Tree}
 use Rattle.tree.specs.Laws.{one-depth}
 use Rattle.expression.specs.declared.Kind.{Kind}
 use Rattle.expression.specs.Bytes.{Right}
-use Rattle.expression.specs.Fronts.{Ready}
+use Rattle.tree.specs.Tree.{Ready}
 use Rattle.expression.specs.Judge.{InOrderOver}
 use Rattle.policy.specs.declared.Role.{Role}
 use Rattle.policy.specs.declared.File.{File}

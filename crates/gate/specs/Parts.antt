@@ -8,7 +8,7 @@ use Rattle.securon.specs.Sets.{_⊆_, Apart}
 use Rattle.tree.specs.declared.Tree.{Tree}
 use Rattle.tree.specs.declared.Levels.{Levels}
 use Rattle.expression.specs.Bytes.{SET, MeetsT1, MeetsT2}
-use Rattle.expression.specs.Fronts.{Ready}
+use Rattle.tree.specs.Tree.{Ready}
 use Rattle.policy.specs.declared.Role.{Role}
 use Rattle.policy.specs.declared.File.{File}
 use Rattle.policy.specs.declared.State.{State}

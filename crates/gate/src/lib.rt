@@ -20,7 +20,7 @@ ghost use lib.ListN.{length, getD, set};
 ghost use Rattle.answer.specs.Answers.{Granted};
 ghost use Rattle.securon.specs.Sets.{_≐_, _⊆_, marked};
 ghost use Rattle.expression.specs.Bytes.{longest, Right, SET, MeetsT1, MeetsT2};
-ghost use Rattle.expression.specs.Fronts.{Ready};
+ghost use Rattle.tree.specs.Tree.{Ready};
 ghost use Rattle.expression.specs.declared.Kind.the-variants.{Privilege, Protection};
 ghost use Rattle.policy.specs.declared.Hold.the-variants.{Free};
 ghost use Rattle.policy.specs.State.{modeCount, slotCount, mostFiles, filePlace, rolePlaces, filePlaces, rolePart, filePart, freeSlot};

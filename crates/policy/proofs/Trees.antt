@@ -8,18 +8,18 @@ use lib.Dec.{eqb}
 use lib.ListN.{length, getD, take, drop, length-drop}
 use lib.Seq.{getD-drop, take-all}
 use Rattle.logic.specs.Iff.{and-iff, iff-trans, zero-iff}
-use Rattle.securon.specs.Sets.{securons}
+use Rattle.securon.specs.Sets.{setRoom}
 use Rattle.tree.specs.declared.Tree.{Tree}
 use Rattle.tree.specs.Tree.{IsTree}
 use Rattle.shelf.specs.Shelf.{AllZero}
 use Rattle.policy.specs.WellFormed.{TreeFine}
 
-module _ (t : Tree) (long : length (t .parent) ≡ securons) (tree : IsTree t) where
-  rest : take (securons - t .n) (drop (t .n) (t .parent)) ≡ drop (t .n) (t .parent)
-  rest = take-all (securons - t .n) (drop (t .n) (t .parent)) (omega (arith, length-drop (t .n) (t .parent)))
+module _ (t : Tree) (long : length (t .parent) ≡ setRoom) (tree : IsTree t) where
+  rest : take (setRoom - t .n) (drop (t .n) (t .parent)) ≡ drop (t .n) (t .parent)
+  rest = take-all (setRoom - t .n) (drop (t .n) (t .parent)) (omega (arith, length-drop (t .n) (t .parent)))
 
   -- the root's parent and the part of the parents from n up, each tested
-  pub tree-rest : (y : Bool) → (y ≡ true) ↔ AllZero (take (securons - t .n) (drop (t .n) (t .parent))) → ((eqb (getD (t .parent) 0 0) 0 && y) ≡ true) ↔ TreeFine t
+  pub tree-rest : (y : Bool) → (y ≡ true) ↔ AllZero (take (setRoom - t .n) (drop (t .n) (t .parent))) → ((eqb (getD (t .parent) 0 0) 0 && y) ≡ true) ↔ TreeFine t
   tree-rest y f = iff-trans (and-iff _ y (zero-iff (getD (t .parent) 0 0)) f) (
     (λ w. record {
       room = long;

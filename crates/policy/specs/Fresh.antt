@@ -5,7 +5,7 @@ use native.Mathlib.Omega.{arith}
 use borrow.Author.Tests.{ltb-true}
 use lib.Dec.{ltb}
 use lib.ListN.{getD, replicate, length-replicate, getD-replicate}
-use Rattle.securon.specs.Sets.{securons}
+use Rattle.securon.specs.Sets.{setRoom}
 use Rattle.tree.specs.Tree.{root, IsDepth}
 use Rattle.tree.specs.Laws.{one-level}
 use Rattle.expression.specs.Bytes.{longest}
@@ -49,10 +49,10 @@ root-depth = record {
 pub fresh-well-formed : WellFormed freshState
 fresh-well-formed = fine-well-formed freshState 0 root-depth (record {
   tree = record {
-    room = length-replicate {A = ℕ} securons 0;
+    room = length-replicate {A = ℕ} setRoom 0;
     is-tree = record { count = (omega arith, omega arith); smaller = λ u p h. absurd (omega arith) };
     root = refl;
-    past = λ u h. zeros-at securons u;
+    past = λ u h. zeros-at setRoom u;
   };
   role-count = omega arith;
   file-count = omega arith;

@@ -3,9 +3,10 @@ use mathlib.Core.Path.{_≡_}
 use mathlib.Core.List.{List, []}
 use Prim.Native.Nat.{ℕ, zero, suc, _+_, _*_, _<_}
 use lib.ListN.{length, getD, set, replicate}
-use Rattle.securon.specs.Sets.{securons}
+use Rattle.securon.specs.Sets.{setRoom}
 use Rattle.tree.specs.declared.Tree.{Tree}
 use Rattle.tree.specs.declared.Levels.{Levels}
+use Rattle.tree.specs.Tree.{rootLevel}
 use Rattle.expression.specs.Bytes.{longest}
 use Rattle.shelf.specs.Shelf.{storedAt, putBytes}
 use Rattle.policy.specs.declared.Role.{Role}
@@ -178,7 +179,7 @@ gOf s file mode = filePart (fileAt s file) (gPlace mode)
 
 -- the levels of what is no tree
 abbrev pub noLevels : Levels
-noLevels = record { of = replicate securons 0; depth = record { 0 = 0 } }
+noLevels = record { of = replicate setRoom rootLevel; depth = rootLevel }
 
 -- the fresh state has the root alone, no role, no file, all slots free; unused room is zero
 abbrev pub noRole : Role
@@ -188,7 +189,7 @@ abbrev pub noFile : File
 noFile = record { lens = replicate filePlaces 0; bytes = replicate (longest * filePlaces) 0 }
 
 abbrev pub rootAlone : Tree
-rootAlone = record { n = 1; parent = replicate securons 0 }
+rootAlone = record { n = 1; parent = replicate setRoom 0 }
 
 abbrev pub freshState : State
 freshState = record {

@@ -5,7 +5,7 @@ use mathlib.Core.Bool.{true}
 use mathlib.Core.Logic.{_↔_}
 use Prim.Native.Nat.{ℕ, _<_, _≤_}
 use lib.ListN.{length, getD}
-use Rattle.securon.specs.Sets.{securons}
+use Rattle.securon.specs.Sets.{setRoom}
 use Rattle.tree.specs.declared.Tree.{Tree}
 use Rattle.tree.specs.Tree.{IsTree, IsDepth, LevelsOf}
 use Rattle.expression.specs.declared.Kind.the-variants.{Privilege, Protection}
@@ -19,7 +19,7 @@ use Rattle.policy.specs.State.{mostRoles, mostFiles, slotCount, IsMode, 
 -- the room of a state: a parent for each securon, 32 roles of thirteen places, 32 files of twenty places, sixteen slots, each place of 48 bytes.
 -- Every state that code holds has it
 pub record HasRoom (s : State) : Type 0 where
-  pub parents : length (s .tree .parent) ≡ securons
+  pub parents : length (s .tree .parent) ≡ setRoom
   pub roles : length (s .roles) ≡ mostRoles
   pub role-places : (i : ℕ) → i < mostRoles → HasPlaces rolePlaces (roleAt s i .lens) (roleAt s i .bytes)
   pub files : length (s .files) ≡ mostFiles
@@ -69,7 +69,7 @@ pub record WellFormed (s : State) : Type 0 where
 
 -- a tree in its room: the parents that no securon has, those of the root and from n up, are zero
 pub record TreeFine (t : Tree) : Type 0 where
-  pub room : length (t .parent) ≡ securons
+  pub room : length (t .parent) ≡ setRoom
   pub is-tree : IsTree t
   pub root : getD (t .parent) 0 0 ≡ 0
   pub past : (u : ℕ) → t .n ≤ u → getD (t .parent) u 0 ≡ 0

@@ -1,9 +1,8 @@
 // The state: the tree, roles, files and slots; the fresh state; its examination; stores (01, "Rows, roles and the test", "Requests").
 use expression::LONGEST;
 use securon::Level;
-use securon::SECURONS;
+use securon::ROOM;
 use tree::Levels;
-use tree::Shape;
 use tree::Tree;
 ghost use mathlib.Core.Path.{_≡_};
 ghost use mathlib.Core.Bool.{true};
@@ -231,12 +230,10 @@ fn rest_zero(tree: Tree) -> bool
 fn tree_fine(tree: Tree) -> bool
     ensures { λ x. ⌜ (x ≡ true) ↔ TreeFine tree ⌝ }
 {
-    let shape = tree.shape();
-    match shape {
-        Shape::Grown => rest_zero(tree),
-        Shape::CountWrong => false,
-        Shape::ParentWrong(_) => false,
+    if tree.grown() {
+        return rest_zero(tree);
     }
+    false
 }
 
 // The same, with the levels of a tree that is fine, and none of another.
@@ -252,7 +249,7 @@ fn examine_tree(tree: Tree) -> Grown
         };
     }
     let levels = Levels {
-        of: [0u8; SECURONS],
+        of: [Level(0); ROOM],
         depth: Level(0),
     };
     Grown {
@@ -303,7 +300,7 @@ impl State {
     {
         let tree = Tree {
             n: 1,
-            parent: [0u8; SECURONS],
+            parent: [0u8; ROOM],
         };
         let role = no_role();
         let file = no_file();

@@ -6,7 +6,7 @@ use Rattle.tree.specs.declared.Tree.{Tree}
 use Rattle.tree.specs.declared.Levels.{Levels}
 use Rattle.expression.specs.Bytes.{Right, SET, MeetsT1, MeetsT2}
 use Rattle.expression.specs.declared.Kind.the-variants.{Privilege}
-use Rattle.expression.specs.Fronts.{Ready}
+use Rattle.tree.specs.Tree.{Ready}
 use Rattle.policy.specs.declared.Role.{Role}
 use Rattle.policy.specs.declared.File.{File}
 use Rattle.policy.specs.State.{IsMode, rolePart, filePart, vPlusPlace, vMinusPlace, t1Place, ePlace, t2Place, gPlace}

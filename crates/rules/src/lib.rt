@@ -10,7 +10,7 @@ ghost use mathlib.Core.Logic.{_↔_};
 ghost use Prim.Native.Nat.{_<_};
 ghost use Rattle.securon.specs.Sets.{_≐_, _⊆_, marked};
 ghost use Rattle.expression.specs.Bytes.{SET, MeetsT1, MeetsT2};
-ghost use Rattle.expression.specs.Fronts.{Ready};
+ghost use Rattle.tree.specs.Tree.{Ready};
 ghost use Rattle.expression.specs.declared.Kind.the-variants.{Privilege, Protection};
 ghost use Rattle.shelf.specs.Shelf.{PartInOrder};
 ghost use Rattle.policy.specs.State.{IsMode, rolePlaces, filePlaces, rolePart, filePart};

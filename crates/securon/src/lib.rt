@@ -11,7 +11,7 @@ pub const ROOM: usize = 64;
 // A securon, by its number.
 pub struct Securon(pub u8);
 
-// A level, d(s) in 002: kept apart from setRoom, so that neither is taken for the other.
+// A level, d(s) in 002: kept apart from securons, so that neither is taken for the other.
 pub struct Level(pub u8);
 
 impl Securon {

@@ -13,10 +13,6 @@ use Rattle.expression.specs.Bytes.{longest, Right, InOrder, WrongAt}
 use Rattle.shelf.specs.Shelf.{storedAt, roomPast, HasPlaces, AllZero, ZeroShelf}
 use Rattle.shelf.specs.Fine.{PlaceFine, ShelfFine}
 
--- what is in order has no fault
-pub wrong-disorder : {kind : Kind} {n d : ℕ} {bs : List ℕ} {k : ℕ} → WrongAt kind n d bs k → InOrder kind n d bs → ⊥
-wrong-disorder {kind} {n} {d} {bs} w o = ⊎-elim (λ v. omega (arith, v .0, o .0)) (λ v. no-fault (Right kind n d) bs (o .1) (v .1)) w
-
 module _ (kind : Kind) (n d : ℕ) (lens bytes : List ℕ) (k m : ℕ) (e : m ≡ getD lens k 0) where
   -- a length over 48
   pub place-over : longest < m → (false ≡ true) ↔ PlaceFine kind n d lens bytes k

@@ -1,5 +1,4 @@
 // A shelf of expressions: place k has its length in `lens[k]`, and room for its bytes from 48 k on. Roles and files are such shelves.
-use expression::Checked;
 use expression::Kind;
 use expression::LONGEST;
 use securon::Level;
@@ -8,7 +7,7 @@ ghost use mathlib.Core.Bool.{true};
 ghost use mathlib.Core.Logic.{_↔_};
 ghost use Prim.Native.Nat.{_+_, _*_, _<_, _≤_};
 ghost use lib.ListN.{length, getD};
-ghost use Rattle.expression.specs.Bytes.{longest, InOrder};
+ghost use Rattle.expression.specs.Bytes.{longest};
 ghost use Rattle.shelf.specs.Shelf.{storedAt, putBytes, PutAt, AllZero, ZeroShelf};
 ghost use Rattle.shelf.specs.Fine.{kindAt, PlaceFine, ShelfFine, UsedOrZero};
 
@@ -40,18 +39,6 @@ pub fn kind_at(file: bool, k: usize) -> Kind
     Kind::Privilege
 }
 
-// Whether an expression is in order for its kind.
-fn in_order(b: &[u8], kind: Kind, n: usize, depth: Level) -> bool
-    requires { ⌜ 0 < n ⌝ }
-    ensures { λ r. ⌜ (r ≡ true) ↔ InOrder kind n (depth .0) (now (b .entry)) ⌝ }
-{
-    let found = expression::check(b, kind, n, depth);
-    match found {
-        Checked::Fine => true,
-        Checked::Wrong(_) => false,
-    }
-}
-
 // One place: its expression in order, and zero past it.
 fn place_fine<'a>(
     file: bool,
@@ -71,7 +58,7 @@ fn place_fine<'a>(
     let at = LONGEST * k;
     let end = at + m;
     let next = at + LONGEST;
-    let fine = in_order(&bytes[at..end], kind_at(file, k), n, depth);
+    let fine = order::in_order(&bytes[at..end], kind_at(file, k), n, depth);
     fine & all_zero(&bytes[end..next])
 }
 

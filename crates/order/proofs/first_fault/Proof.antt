@@ -4,8 +4,7 @@ use mathlib.Core.Logic.{inl, inr}
 use native.Mathlib.Omega.{arith}
 use Rattle.order.specs.Order.{Checks}
 use Rattle.expression.specs.Judge.{WrongOver}
-use Rattle.expression.specs.One.{in-order-not-wrong-over}
-use Rattle.expression.specs.One.{wrong-within}
+use Rattle.expression.specs.One.{in-order-not-wrong-over, wrong-within}
 use borrow.Author.Needs.{needs}
 use Rattle.order.proofs.first_fault.Statement.{statement}
 use Rattle.order.proofs.first_fault.Tie as tie

@@ -2,7 +2,7 @@
 use mathlib.Core.Path.{_≡_}
 use native.Mathlib.Omega.{arith}
 use lib.ListN.{length}
-use Rattle.securon.specs.Sets.{securons}
+use Rattle.securon.specs.Sets.{setRoom}
 use Rattle.policy.proofs.Trees.{tree-rest}
 use borrow.Author.Needs.{needs}
 use Rattle.policy.proofs.rest_zero.Statement.{statement}
@@ -19,7 +19,7 @@ part-all-zero-start c = search needs
 
 part-all-zero-end : tie.Need-part-all-zero-end
 part-all-zero-end c =
-    let long : length (c .before .before .args .tree .parent) ≡ securons = search needs in
+    let long : length (c .before .before .args .tree .parent) ≡ setRoom = search needs in
     omega (arith, c .before .before .pre .count .1)
 
 all-zero-requires : tie.Need-all-zero-requires
@@ -28,7 +28,7 @@ all-zero-requires c κs = search needs
 returns : tie.Need-returns
 returns c =
     let a = c .before .before .before .before .args .tree in
-    let long : length (a .parent) ≡ securons = search needs in
+    let long : length (a .parent) ≡ setRoom = search needs in
     tree-rest a long (c .before .before .before .before .pre) _ (c .all-zero .ensures)
 
 pub rest-zero-spec : {M : Type 1} → statement M
