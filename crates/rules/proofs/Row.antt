@@ -3,48 +3,25 @@ use mathlib.Core.Path.{_≡_, refl, sym, _∙_, subst}
 use mathlib.Core.Bool.{Bool, true, false, _&&_, false≢true}
 use mathlib.Core.List.{List}
 use mathlib.Core.Logic.{_⊎_, inl, inr, ⊎-elim, _↔_}
-use Prim.Native.Nat.{ℕ, _<_, _≤_, _%_}
+use Prim.Native.Nat.{ℕ, _<_, _%_}
 use native.Mathlib.Omega.{arith}
 use lib.ListN.{getD}
-use Rattle.securon.specs.Sets.{Set, _∪_, _⊆_, _≐_, Apart, marked}
 use Rattle.logic.specs.Iff.{and-iff, iff-trans}
-use Rattle.tree.specs.declared.Tree.{Tree}
+use Rattle.securon.specs.Sets.{Set, _∪_, _⊆_, _≐_, marked}
+use Rattle.securon.specs.Laws.{same-part}
 use Rattle.expression.specs.declared.Kind.{Kind}
 use Rattle.expression.specs.declared.Kind.the-variants.{Privilege}
-use Rattle.expression.specs.Bytes.{longest, WrongAt, MeetsBytes, MeetsT1, MeetsT2}
+use Rattle.shelf.specs.Shelf.{PartInOrder}
+use Rattle.shelf.specs.Kept.{odd-kind}
 use Rattle.policy.specs.declared.File.{File}
 use Rattle.policy.specs.State.{filePlaces, read, write}
-use Rattle.shelf.specs.Shelf.{PartInOrder}
 use Rattle.policy.specs.WellFormed.{FileInOrder}
-use Rattle.shelf.specs.Kept.{odd-kind}
 use Rattle.policy.specs.Parts.{file-by-place}
 use Rattle.rules.specs.Rules.{MediatesRow, EntersOrLeaves}
 
--- a test that says no, where the fact does not hold
-pub no-iff : {A : Type 0} → (A → ⊥) → (false ≡ true) ↔ A
-no-iff n = ((λ e. absurd (false≢true e)), λ a. absurd (n a))
-
--- who holds more meets what was met
-meets-more : (t : Tree) (H K : Set) (bs : List ℕ) → H ⊆ K → MeetsBytes t H bs → MeetsBytes t K bs
-meets-more t H K bs h (e, q, m) = (e, q, record { chosen = m .chosen; in-value = m .in-value; held = λ u o. h u (m .held u o) })
-
-module _ (t : Tree) (H K : Set) (same : H ≐ K) (bs : List ℕ) where
-  pub same-t2 : MeetsT2 t H bs ↔ MeetsT2 t K bs
-  same-t2 = (meets-more t H K bs (λ u. same u .0), meets-more t K H bs (λ u. same u .1))
-
-  pub same-t1 : MeetsT1 t H bs ↔ MeetsT1 t K bs
-  same-t1 = (⊎-elim inl (λ m. inr (same-t2 .0 m)), ⊎-elim inl (λ m. inr (same-t2 .1 m)))
-
--- part and apart of sets with the same members
-module _ {A B C D : Set} (p : A ≐ B) (q : C ≐ D) where
-  pub same-part : (A ⊆ C) ↔ (B ⊆ D)
-  same-part = ((λ h u b. q u .0 (h u (p u .1 b))), λ h u a. q u .1 (h u (p u .0 a)))
-
-  pub same-apart : Apart A C ↔ Apart B D
-  same-apart = ((λ h u b d. h u (p u .1 b) (q u .1 d)), λ h u a c. h u (p u .0 a) (q u .0 c))
-
 -- who of A is missing in B is in S, and who of B is missing in A: told by whether each is a part of the other with S
-pub altered-iff : (A B : List Bool) (S : Set) (K L : Set) → K ≐ marked B ∪ S → L ≐ marked A ∪ S → (x y : Bool) → (x ≡ true) ↔ (marked A ⊆ K) → (y ≡ true) ↔ (marked B ⊆ L) → ((x && y) ≡ true) ↔ (EntersOrLeaves (marked A) (marked B) ⊆ S)
+pub altered-iff : (A B : List Bool) (S : Set) (K L : Set) → K ≐ marked B ∪ S → L ≐ marked A ∪ S → (x y : Bool)
+    → (x ≡ true) ↔ (marked A ⊆ K) → (y ≡ true) ↔ (marked B ⊆ L) → ((x && y) ≡ true) ↔ (EntersOrLeaves (marked A) (marked B) ⊆ S)
 altered-iff A B S K L k l x y f g = iff-trans (and-iff x y f g) (
   (λ w u. ⊎-elim
       (λ m. ⊎-elim (λ a. absurd (m .1 a)) (λ s. s) (l u .0 (w .1 u (m .0))))
@@ -62,21 +39,27 @@ altered-iff A B S K L k l x y f g = iff-trans (and-iff x y f g) (
         go true e = inl e
         go false e = inr (s (λ m. false≢true (sym e ∙ m)))
 
--- a place for 6 is at most 48
-pub wrong-within : {kind : Kind} {n d : ℕ} {bs : List ℕ} {k : ℕ} → WrongAt kind n d bs k → k ≤ longest
-wrong-within w = ⊎-elim (λ v. omega (arith, v .1)) (λ v. omega (arith, v .0, v .1 .within)) w
-
 -- the mediating test, mode by mode
 module _ {mode : ℕ} {m1 m2 e g : Set} where
   pub read-fits : mode ≡ read → ((e ⊆ m1) × (g ⊆ m2)) ↔ MediatesRow mode m1 m2 e g
   read-fits r = (
-    (λ w. record { e-in-m1 = λ _. w .0; g-in-m2 = λ _. w .1; m1-in-e = λ h. absurd (omega arith); m2-in-g = λ h. absurd (omega arith) }),
+    (λ w. record {
+      e-in-m1 = λ _. w .0;
+      g-in-m2 = λ _. w .1;
+      m1-in-e = λ h. absurd (omega arith);
+      m2-in-g = λ h. absurd (omega arith);
+    }),
     λ w. (w .e-in-m1 r, w .g-in-m2 r),
   )
 
   pub write-fits : mode ≡ write → ((m1 ⊆ e) × (m2 ⊆ g)) ↔ MediatesRow mode m1 m2 e g
   write-fits r = (
-    (λ w. record { e-in-m1 = λ h. absurd (omega arith); g-in-m2 = λ h. absurd (omega arith); m1-in-e = λ _. w .0; m2-in-g = λ _. w .1 }),
+    (λ w. record {
+      e-in-m1 = λ h. absurd (omega arith);
+      g-in-m2 = λ h. absurd (omega arith);
+      m1-in-e = λ _. w .0;
+      m2-in-g = λ _. w .1;
+    }),
     λ w. (w .m1-in-e r, w .m2-in-g r),
   )
 
@@ -89,15 +72,29 @@ module _ {mode : ℕ} {m1 m2 e g : Set} where
 -- and with sets that have the same members
 pub same-mediates : {mode : ℕ} {m1 m2 e g n1 n2 f h : Set} → m1 ≐ n1 → m2 ≐ n2 → e ≐ f → g ≐ h → MediatesRow mode m1 m2 e g ↔ MediatesRow mode n1 n2 f h
 same-mediates a b c d = (
-  (λ w. record { e-in-m1 = λ r. same-part c a .0 (w .e-in-m1 r); g-in-m2 = λ r. same-part d b .0 (w .g-in-m2 r); m1-in-e = λ r. same-part a c .0 (w .m1-in-e r); m2-in-g = λ r. same-part b d .0 (w .m2-in-g r) }),
-  (λ w. record { e-in-m1 = λ r. same-part c a .1 (w .e-in-m1 r); g-in-m2 = λ r. same-part d b .1 (w .g-in-m2 r); m1-in-e = λ r. same-part a c .1 (w .m1-in-e r); m2-in-g = λ r. same-part b d .1 (w .m2-in-g r) }),
+  (λ w. record {
+    e-in-m1 = λ r. same-part c a .0 (w .e-in-m1 r);
+    g-in-m2 = λ r. same-part d b .0 (w .g-in-m2 r);
+    m1-in-e = λ r. same-part a c .0 (w .m1-in-e r);
+    m2-in-g = λ r. same-part b d .0 (w .m2-in-g r);
+  }),
+  (λ w. record {
+    e-in-m1 = λ r. same-part c a .1 (w .e-in-m1 r);
+    g-in-m2 = λ r. same-part d b .1 (w .g-in-m2 r);
+    m1-in-e = λ r. same-part a c .1 (w .m1-in-e r);
+    m2-in-g = λ r. same-part b d .1 (w .m2-in-g r);
+  }),
 )
 
 -- a set that enters or leaves, where the three have the same members as others
 pub same-altered : {A B C D S T : Set} → A ≐ C → B ≐ D → S ≐ T → (EntersOrLeaves A B ⊆ S) ↔ (EntersOrLeaves C D ⊆ T)
 same-altered a b s = (
-  (λ h u. ⊎-elim (λ m. s u .0 (h u (inl (b u .1 (m .0), λ n. m .1 (a u .0 n))))) (λ m. s u .0 (h u (inr (a u .1 (m .0), λ n. m .1 (b u .0 n)))))),
-  λ h u. ⊎-elim (λ m. s u .1 (h u (inl (b u .0 (m .0), λ n. m .1 (a u .1 n))))) (λ m. s u .1 (h u (inr (a u .0 (m .0), λ n. m .1 (b u .1 n))))),
+  (λ h u. ⊎-elim
+      (λ m. s u .0 (h u (inl (b u .1 (m .0), λ n. m .1 (a u .0 n)))))
+      (λ m. s u .0 (h u (inr (a u .1 (m .0), λ n. m .1 (b u .0 n)))))),
+  λ h u. ⊎-elim
+      (λ m. s u .1 (h u (inl (b u .0 (m .0), λ n. m .1 (a u .1 n)))))
+      (λ m. s u .1 (h u (inr (a u .0 (m .0), λ n. m .1 (b u .1 n))))),
 )
 
 -- E and G stand at a file's odd places

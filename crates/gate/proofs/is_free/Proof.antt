@@ -1,7 +1,7 @@
 -- `gate::is_free` meets its contract: what holds a role is not free. Assumes nothing.
 use mathlib.Core.Path.{sym, _∙_}
 use Rattle.policy.specs.Whole.{free-held}
-use Rattle.gate.proofs.Row.{no-iff}
+use Rattle.logic.specs.Iff.{no-iff}
 use borrow.Author.Needs.{needs}
 use Rattle.gate.proofs.is_free.Statement.{statement}
 use Rattle.gate.proofs.is_free.Tie as tie

@@ -5,7 +5,7 @@ use native.Mathlib.Omega.{arith}
 use Rattle.expression.specs.Bytes.{Checks}
 use Rattle.expression.specs.Judge.{WrongOver}
 use Rattle.expression.specs.One.{in-order-not-wrong-over}
-use Rattle.gate.proofs.Row.{wrong-within}
+use Rattle.expression.specs.One.{wrong-within}
 use borrow.Author.Needs.{needs}
 use Rattle.gate.proofs.judge.Statement.{statement}
 use Rattle.gate.proofs.judge.Tie as tie

@@ -2,7 +2,8 @@
 use native.Mathlib.Omega.{arith}
 use borrow.Author.Tests.{not-true, not-false}
 use Rattle.logic.specs.Iff.{iff-trans, not-then-false}
-use Rattle.rules.proofs.Row.{no-iff, same-altered}
+use Rattle.logic.specs.Iff.{no-iff}
+use Rattle.rules.proofs.Row.{same-altered}
 use borrow.Author.Needs.{needs}
 use Rattle.rules.proofs.covers.Statement.{statement}
 use Rattle.rules.proofs.covers.Tie as tie

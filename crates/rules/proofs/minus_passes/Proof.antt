@@ -1,7 +1,9 @@
 -- `rules::minus_passes` meets its contract: the set at hand has V-'s members, and the two tests are the two facts. Assumes nothing.
 use native.Mathlib.Omega.{arith}
 use Rattle.logic.specs.Iff.{iff-trans, not-then-false}
-use Rattle.rules.proofs.Row.{no-iff, same-t2, same-apart}
+use Rattle.logic.specs.Iff.{no-iff}
+use Rattle.expression.specs.Laws.{same-t2}
+use Rattle.securon.specs.Laws.{same-apart}
 use borrow.Author.Needs.{needs}
 use Rattle.rules.proofs.minus_passes.Statement.{statement}
 use Rattle.rules.proofs.minus_passes.Tie as tie

@@ -2,7 +2,9 @@
 use native.Mathlib.Omega.{arith}
 use borrow.Author.Tests.{not-true, not-false}
 use Rattle.logic.specs.Iff.{iff-trans, not-then-false}
-use Rattle.rules.proofs.Row.{no-iff, same-t1, same-part}
+use Rattle.logic.specs.Iff.{no-iff}
+use Rattle.expression.specs.Laws.{same-t1}
+use Rattle.securon.specs.Laws.{same-part}
 use borrow.Author.Needs.{needs}
 use Rattle.rules.proofs.plus_passes.Statement.{statement}
 use Rattle.rules.proofs.plus_passes.Tie as tie
