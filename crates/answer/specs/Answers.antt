@@ -35,6 +35,10 @@ Decides [] grants a = Granted a × grants (a .place)
 Decides (c ∷ cs) grants a =
     ((c .holds → ⊥) × (a .number ≡ c .number) × c .names (a .place)) ⊎ (c .holds × Decides cs grants a)
 
+-- the same, where a grant names this place
+abbrev pub DecidesAt : List Condition → ℕ → Answer → Type 0
+DecidesAt cs at = Decides cs (λ k. k ≡ at)
+
 -- what is there after the call: after a grant what the grant makes, after a refusal what was there before ("Every refusal keeps state and buffers")
 pub record Leaves {S : Type 0} (a : Answer) (made : S → Type 0) (before after : S) : Type 0 where
   pub on-grant : Granted a → made after

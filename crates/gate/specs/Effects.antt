@@ -3,13 +3,12 @@ use mathlib.Core.List.{List}
 use Prim.Native.Nat.{ℕ, _<_}
 use Rattle.answer.specs.declared.Answer.{Answer}
 use Rattle.policy.specs.declared.File.{File}
-use Rattle.policy.specs.declared.Slot.{Slot}
 use Rattle.policy.specs.declared.State.{State}
 use Rattle.policy.specs.State.{mostFiles, setSlots, withFile}
 use Rattle.gate.specs.declared.Effect.{Effect}
-use Rattle.gate.specs.declared.Outcome.{Outcome}
+use Rattle.gate.specs.Requests.{Outcome}
 
-abbrev pub effectOf : Answer → List Slot → ℕ → File → Effect
+abbrev pub effectOf : Answer → List ℕ → ℕ → File → Effect
 effectOf a slots at file = record { answer = a; slots = slots; at = at; file = file }
 
 -- the same state with the effect's slots and its file

@@ -1,6 +1,6 @@
-pub mod Rules
 pub mod Requests
+pub mod Granted
 pub mod Effects
-pub mod Laws
 pub mod Parts
+pub mod Laws
 pub mod Small

@@ -1,29 +1,21 @@
--- What the functions inside promise: the rules over a role and a file at hand, and what is said of the state that was tested. A device of the proofs.
+-- What the functions inside promise: what is said of every state that was seen so. A device of the proofs.
 use mathlib.Core.Path.{_≡_}
 use mathlib.Core.List.{List}
 use Prim.Native.Nat.{ℕ}
 use Rattle.answer.specs.declared.Answer.{Answer}
 use Rattle.answer.specs.Answers.{Granted}
-use Rattle.securon.specs.Sets.{_⊆_, Apart}
-use Rattle.tree.specs.declared.Tree.{Tree}
-use Rattle.tree.specs.declared.Levels.{Levels}
-use Rattle.expression.specs.Bytes.{SET, MeetsT1, MeetsT2}
-use Rattle.tree.specs.Tree.{Ready}
-use Rattle.policy.specs.declared.Role.{Role}
-use Rattle.policy.specs.declared.File.{File}
 use Rattle.policy.specs.declared.State.{State}
-use Rattle.policy.specs.State.{read, rolePart, filePart, vPlusPlace, vMinusPlace, m1Place, m2Place, bPlace, t1Place, ePlace, t2Place, gPlace, putPair}
+use Rattle.policy.specs.State.{putPair}
 use Rattle.policy.specs.declared.Examined.{Examined}
-use Rattle.policy.specs.WellFormed.{RoleInOrder, FileInOrder, Examines}
+use Rattle.policy.specs.WellFormed.{Examines}
 use Rattle.gate.specs.declared.Effect.{Effect}
 use Rattle.gate.specs.Effects.{effectOf}
-use Rattle.rules.specs.Rules.{PassesRow, MediatesRow, CoversRow}
 
--- some state gave this to its test, for that slot and that file
+-- some state was seen so at its examination, for that slot and that file
 abbrev pub Seen : ℕ → ℕ → Examined → Type 0
 Seen slot file seen = (s : State) × Examines s slot file seen
 
--- P holds of every state that gives this to its test, for that slot and that file
+-- P holds of every state that is seen so at its examination, for that slot and that file
 abbrev pub Of : ℕ → ℕ → Examined → (State → Type 0) → Type 0
 Of slot file seen P = (s : State) → Examines s slot file seen → P s
 
