@@ -10,3 +10,4 @@ pub mod Fronts
 pub mod Decide
 pub mod Starred
 pub mod StarredLaws
+pub mod Total
