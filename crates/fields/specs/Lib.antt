@@ -12,3 +12,4 @@ pub mod Loads
 pub mod Reading
 pub mod Readings
 pub mod Takings
+pub mod Bounds
