@@ -1,2 +1,5 @@
 pub mod Image
 pub mod Load
+pub mod Taken
+pub mod Made
+pub mod Bounds
