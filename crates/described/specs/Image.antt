@@ -52,7 +52,7 @@ noParent = record { number = parentWrong; listed = (omega arith) }
 abbrev pub noExpression : Refusal
 noExpression = record { number = expressionWrong; listed = (omega arith) }
 
--- what differs from version to version: which count bytes are in range, and how many parents follow one; the kind of the expression at each place of a role, of a file
+-- what differs from version to version: the range of the count byte, how many parents follow it, the kinds of a role's and a file's expressions by place
 pub record Layout : Type 0 where
   pub least : ℕ
   pub most : ℕ
@@ -64,6 +64,10 @@ pub record Layout : Type 0 where
 pub record Versions : Type 0 where
   pub latest : ℕ
   pub layout : ℕ → Layout
+
+-- an expression's bytes with their length byte before them
+abbrev pub expressionBytes : List ℕ → List ℕ
+expressionBytes x = length x ∷ x
 
 -- each expression is a length byte, at most 48, and its bytes: in order for its kind, over one securon more than there are parents, and the depth d
 unfoldable pub expression : Kind → ℕ → ℕ → Format (List ℕ)
@@ -151,6 +155,6 @@ inUse = record { latest = 1; layout = λ v. version1 }
 abbrev pub image : Document Policy
 image = alone (policyImage inUse)
 
--- the most bytes: six before the parents, a parent for every securon but the root, and two counts; of every role and file every expression as long as can be, with its length byte
+-- the most bytes: six before the parents, a parent for every securon but the root; every role and file there can be, each expression as long as can be
 abbrev pub longestImage : ℕ
 longestImage = 6 + (mostInVersion1 - 1) + (1 + mostRoles * (rolePlaces * (1 + longest))) + (1 + mostFiles * (filePlaces * (1 + longest)))

@@ -3,3 +3,5 @@ pub mod Load
 pub mod Taken
 pub mod Made
 pub mod Bounds
+pub mod Laws
+pub mod Examples

@@ -34,7 +34,7 @@ stateOf p = record {
   slots = replicate slotCount freeSlot;
 }
 
--- a load is done where the bytes are the image of a policy, and leaves the state that this policy makes; else it is refused as the image is, and leaves the state as it was
+-- where the bytes are the image of a policy, the answer is done, and the state is the one that it makes; else the image is refused, and the state is as it was
 pub record Loads (bytes : List ℕ) (before : State) (r : Loaded) : Type 0 where
   pub answers : Answers image bytes (r .answer)
   pub leaves : Leaves (r .answer) (λ s. (p : Policy) × image .Takes bytes p × (s ≡ stateOf p)) before (r .state)

@@ -80,7 +80,8 @@ module _ (xs : Expressions) (short : Short xs) (k : ℕ) (h : k < length xs) whe
   -- and past it is zero
   past-here : take (longest - length x) (drop (longest * k + length x) (flatMap padded xs)) ≡ zeros
   past-here =
-      ap (take (longest - length x)) (sym (drop-drop (length x) (longest * k) (flatMap padded xs)) ∙ ap (drop (length x)) from-here ∙ drop-append-seam x (zeros ++ rest))
+      let behind = sym (drop-drop (length x) (longest * k) (flatMap padded xs)) ∙ ap (drop (length x)) from-here ∙ drop-append-seam x (zeros ++ rest) in
+      ap (take (longest - length x)) behind
       ∙ take-at zeros rest (longest - length x) (length-replicate {A = ℕ} (longest - length x) 0)
 
   pub past-zero : AllZero (roomPast (map length xs) (flatMap padded xs) k)
@@ -220,11 +221,13 @@ module _ (p : Policy) (f : PolicyFine version1 p) where
 
   roles-made : AllAre roleShelves (length (p .roles)) n d (filled mostRoles noRole (map roleOf (p .roles)))
   roles-made =
-      all-made roleShelves roleOf noRole role-lens role-room (zero-places rolePlaces) (zero-shelf rolePlaces) roleKinds role-kinds refl n d (p .roles) (f .roles)
+      let place = zero-places rolePlaces in
+      all-made roleShelves roleOf noRole role-lens role-room place (zero-shelf rolePlaces) roleKinds role-kinds refl n d (p .roles) (f .roles)
 
   files-made : AllAre fileShelves (length (p .files)) n d (filled mostFiles noFile (map fileOf (p .files)))
   files-made =
-      all-made fileShelves fileOf noFile file-lens file-room (zero-places filePlaces) (zero-shelf filePlaces) fileKinds file-kinds refl n d (p .files) (f .files)
+      let place = zero-places filePlaces in
+      all-made fileShelves fileOf noFile file-lens file-room place (zero-shelf filePlaces) fileKinds file-kinds refl n d (p .files) (f .files)
 
   pub made-well-formed : WellFormed (stateOf p)
   made-well-formed = fine-well-formed (stateOf p) d (depth-is (p .tree) (f .tree .is-tree)) (record {

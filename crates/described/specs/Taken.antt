@@ -1,4 +1,4 @@
--- What the policy of an image is: its parents make a tree, there are at most so many roles and files, and every expression is in order for its place. Assumes nothing.
+-- What the policy of an image is: its parents make a tree, and every expression of a role or a file is in order for its place. Assumes nothing.
 use mathlib.Core.Path.{_≡_, refl, sym, ap, _∙_, subst}
 use mathlib.Core.List.{List, [], _∷_, _++_}
 use Prim.Native.Nat.{ℕ, zero, suc, _+_, _-_, _<_, _≤_}
@@ -21,7 +21,7 @@ use Rattle.fields.specs.Combine.{times}
 use Rattle.fields.specs.Parts.{below, between, byte}
 use Rattle.fields.specs.Takings.{byte-is, times-takes, made-takes}
 use Rattle.described.specs.Image.{Expressions, Policy, Layout, Versions, version1, inUse, mostInVersion1, noCount, noParent, noExpression}
-use Rattle.described.specs.Image.{expression, shelf, counted, parentBytes, treeOf, withFiles, withRoles, body, head, policyImage, image}
+use Rattle.described.specs.Image.{expressionBytes, expression, shelf, counted, parentBytes, treeOf, withFiles, withRoles, body, head, policyImage, image}
 
 -- expressions in order for these kinds, place by place, over n securons and the depth d
 pub record InPlace (kinds : List Kind) (n d : ℕ) (xs : Expressions) : Type 0 where
@@ -41,7 +41,7 @@ pub record PolicyFine (l : Layout) (p : Policy) : Type 0 where
 
 module _ (parents d : ℕ) where
   -- an expression is in order; its bytes are its length byte and it
-  pub expression-is : (kind : Kind) (x v : List ℕ) → expression kind parents d .Takes x v → InOrder kind (suc parents) d v × (x ≡ length v ∷ v)
+  pub expression-is : (kind : Kind) (x v : List ℕ) → expression kind parents d .Takes x v → InOrder kind (suc parents) d v × (x ≡ expressionBytes v)
   unfolding expression
   expression-is kind x v (y, z, m, e, t, (l, r, q)) =
       let b = byte-is (between 0 longest) noExpression y m t in
