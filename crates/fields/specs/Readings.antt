@@ -6,16 +6,18 @@ use Prim.Native.Nat.{ℕ, _+_, _-_, _<_, _≤_}
 use native.Mathlib.Numerals.{add-one}
 use native.Mathlib.Omega.{arith}
 use lib.ListN.{length, take, drop, getD, length-append, length-drop, take-append-drop, drop-of-length-le}
-use lib.Seq.{drop-append-seam, drop-drop, length-take-le, getD-take, getD-drop}
+use lib.Seq.{drop-append-seam, drop-drop, take-all, length-take-le, getD-take, getD-drop}
 use Rattle.answer.specs.declared.Answer.{Answer}
 use Rattle.answer.specs.Numbers.{done, endsEarly, leftOver}
 use Rattle.answer.specs.Answers.{Is}
+use Rattle.answer.specs.Faults.{FaultAt}
+use Rattle.answer.specs.Laws.{one-fault, no-fault}
 use Rattle.fields.specs.declared.Met.{Met}
 use Rattle.fields.specs.declared.Met.the-variants.{Read, Refused}
 use Rattle.fields.specs.Format.{Number, Refusal, Said, Format, Some}
-use Rattle.fields.specs.Means.{Judging, Test, Entries, none, more, EntryFaults, here, later}
+use Rattle.fields.specs.Means.{Judging, Test, WrongByte, Entries, none, more, EntryFaults, here, later}
 use Rattle.fields.specs.Combine.{give, _>>=_, times}
-use Rattle.fields.specs.Parts.{between, anything, made, stretch, together, valued, first, lowFirst, firstTwo, byte, early, bytes}
+use Rattle.fields.specs.Parts.{between, anything, made, stretch, together, byByte, valued, first, lowFirst, firstTwo, byte, early, bytes}
 use Rattle.fields.specs.Document.{alone}
 use Rattle.fields.specs.Reading.{Comes, Reads, ReadsSome, NumberRead, Ends}
 
@@ -196,6 +198,36 @@ module _ (m : ℕ) (bs : List ℕ) {from : Met} where
       value = take m (drop a bs);
       reads = reads-at (bytes m) bs (Read (a + m)) (take m (drop a bs)) e (λ l. stretch-good m (together m anything) early bs a h tt);
     }
+
+-- m bytes that are judged one by one: all there, and legal or at fault; or not all there, with a fault so far or none
+module _ (m : ℕ) (Legal : List ℕ → Type 0) (judge : (l : List ℕ) → Legal l ⊎ ((k : ℕ) × FaultAt Legal l k)) (refusal : Refusal) (bs : List ℕ) (a : ℕ) where
+  abbrev legal : Format (List ℕ)
+  legal = stretch m (byByte m Legal judge) refusal
+
+  pub legal-there : a + m ≤ length bs → Legal (take m (drop a bs)) → Comes legal bs a (Read (a + m)) (take m (drop a bs))
+  legal-there h g = stretch-good m (byByte m Legal judge) refusal bs a h g
+
+  pub fault-there : (k : ℕ) (v : List ℕ) → a + m ≤ length bs → FaultAt Legal (take m (drop a bs)) k → Comes legal bs a (Refused (refusal .number) (a + k)) v
+  fault-there k v h f =
+      let l : length (take m (drop a bs)) ≡ m = length-take-le m (drop a bs) (omega (arith, h, length-drop a bs)) in
+      stretch-wrong m (byByte m Legal judge) refusal bs a k v (f, inr l)
+
+  pub fault-so-far : (k : ℕ) (v : List ℕ) → a ≤ length bs → length bs < a + m → k < length (drop a bs) → FaultAt Legal (drop a bs) k
+      → Comes legal bs a (Refused (refusal .number) (a + k)) v
+  fault-so-far k v h l i f =
+      let all : take m (drop a bs) ≡ drop a bs = take-all m (drop a bs) (omega (arith, h, l, length-drop a bs)) in
+      stretch-wrong m (byByte m Legal judge) refusal bs a k v (subst (λ (x : List ℕ). WrongByte m Legal x k) (sym all) (f, inl i))
+
+  -- none so far: they are legal as they are, or at fault only in that they end
+  pub none-so-far : (v : List ℕ) → a ≤ length bs → length bs < a + m → Legal (drop a bs) ⊎ FaultAt Legal (drop a bs) (length (drop a bs))
+      → Comes legal bs a (Refused endsEarly (length bs)) v
+  none-so-far v h l w = stretch-early m (byByte m Legal judge) refusal bs a v h l (λ j (f, i). go w j f i)
+    where
+      go : Legal (drop a bs) ⊎ FaultAt Legal (drop a bs) (length (drop a bs)) → (j : ℕ) → FaultAt Legal (drop a bs) j
+          → (j < length (drop a bs)) ⊎ (length (drop a bs) ≡ m) → ⊥
+      go (inl g) j f i = no-fault Legal (drop a bs) g f
+      go (inr e) j f (inl i) = omega (arith, i, one-fault Legal (drop a bs) j (length (drop a bs)) f e)
+      go (inr e) j f (inr i) = omega (arith, h, l, i, length-drop a bs)
 
 -- the same byte under another test that says as much
 module _ (t s : Test ℕ) (same : (v : ℕ) → t .holds v ↔ s .holds v) (refusal : Refusal) (bs : List ℕ) where
