@@ -1,6 +1,6 @@
 -- A refusal of an image has a number of one digit; no image is longer than 51,815 bytes. Assumes nothing.
 use mathlib.Core.Path.{_≡_, refl}
-use mathlib.Core.List.{List, []}
+use mathlib.Core.List.{List}
 use Prim.Native.Nat.{ℕ, suc, _+_, _*_, _-_, _<_, _≤_}
 use native.Mathlib.Nat.{le-trans, mul-le-mul-right}
 use native.Mathlib.Omega.{arith}
@@ -19,7 +19,7 @@ use Rattle.fields.specs.Bounds.{NumbersUnder, under-then, under-times, under-st
 use Rattle.fields.specs.Bounds.{AtMost, most-then, most-times, most-stretch, most-value}
 use Rattle.fields.specs.Document.{alone}
 use Rattle.fields.specs.Takings.{byte-is, made-takes}
-use Rattle.described.specs.Image.{Expressions, Policy, Layout, Versions, version1, inUse, mostInVersion1, longestImage, roleKinds, fileKinds}
+use Rattle.described.specs.Image.{Expressions, Policy, Layout, Versions, version1, mostInVersion1, longestImage, roleKinds, fileKinds}
 use Rattle.described.specs.Image.{markS, markP, markT, noMark, noVersion, noCount, noParent, noExpression}
 use Rattle.described.specs.Image.{expression, shelf, counted, parentBytes, treeOf, withFiles, withRoles, body, head, policyImage, image}
 

@@ -13,12 +13,9 @@ use Rattle.tree.specs.Depth.{depthOf, depth-is}
 use Rattle.expression.specs.declared.Kind.{Kind}
 use Rattle.expression.specs.declared.Kind.the-variants.{Privilege}
 use Rattle.expression.specs.Bytes.{longest, InOrder}
-use Rattle.policy.specs.declared.Role.{Role}
-use Rattle.policy.specs.declared.File.{File}
-use Rattle.policy.specs.declared.State.{State}
 use Rattle.policy.specs.State.{mostRoles, mostFiles, slotCount, rolePlaces, filePlaces, freeSlot, storedAt, roomPast, padded, noRole, noFile}
 use Rattle.policy.specs.WellFormed.{HasPlaces, AllZero, ZeroShelf, WellFormed}
-use Rattle.policy.specs.Fine.{kindAt, PlaceFine, ShelfFine, SlotIs, SlotsAre, Shelving, roleShelves, fileShelves, OneIs, AllAre, StateFine}
+use Rattle.policy.specs.Fine.{kindAt, ShelfFine, SlotIs, SlotsAre, Shelving, roleShelves, fileShelves, OneIs, AllAre}
 use Rattle.policy.specs.Fresh.{zero-places, zero-shelf}
 use Rattle.policy.specs.Shelves.{length-padded}
 use Rattle.policy.specs.Whole.{free-held, fine-well-formed}

@@ -2,26 +2,21 @@
 use mathlib.Core.Path.{_≡_, refl, sym, ap, _∙_, subst}
 use mathlib.Core.List.{List, [], _∷_, _++_}
 use Prim.Native.Nat.{ℕ, zero, suc, _+_, _-_, _<_, _≤_}
-use native.Mathlib.Decide.{decLt}
 use native.Mathlib.Omega.{arith}
 use lib.ListN.{length, getD, replicate, length-append, length-replicate, List·getD-append}
 use lib.Seq.{getD-append-add}
 use Rattle.securon.specs.Sets.{securons}
-use Rattle.tree.specs.declared.Tree.{Tree}
 use Rattle.tree.specs.Depth.{depthOf}
 use Rattle.expression.specs.declared.Kind.{Kind}
 use Rattle.expression.specs.declared.Kind.the-variants.{Privilege}
 use Rattle.expression.specs.Bytes.{longest, Right, InOrder}
-use Rattle.expression.specs.Total.{judged}
 use Rattle.policy.specs.State.{mostRoles, mostFiles}
 use Rattle.policy.specs.Fine.{TreeFine}
 use Rattle.policy.specs.Fresh.{zero-shelf}
-use Rattle.fields.specs.Format.{Format}
-use Rattle.fields.specs.Combine.{times}
 use Rattle.fields.specs.Parts.{below, between, byte}
 use Rattle.fields.specs.Takings.{byte-is, times-takes, made-takes}
-use Rattle.described.specs.Image.{Expressions, Policy, Layout, Versions, version1, inUse, mostInVersion1, noCount, noParent, noExpression}
-use Rattle.described.specs.Image.{expressionBytes, expression, shelf, counted, parentBytes, treeOf, withFiles, withRoles, body, head, policyImage, image}
+use Rattle.described.specs.Image.{Expressions, Policy, Layout, version1, mostInVersion1, noCount, noParent, noExpression}
+use Rattle.described.specs.Image.{expressionBytes, expression, shelf, counted, parentBytes, treeOf, withFiles, withRoles, body, policyImage, image}
 
 -- expressions in order for these kinds, place by place, over n securons and the depth d
 pub record InPlace (kinds : List Kind) (n d : ℕ) (xs : Expressions) : Type 0 where

@@ -1,5 +1,5 @@
 -- All the bytes of an image or a list: a format with nothing behind it, or entries to the end; and the answer that a reader of one gives. Definitions only.
-use mathlib.Core.Path.{_≡_, refl}
+use mathlib.Core.Path.{refl}
 use mathlib.Core.List.{List, []}
 use mathlib.Core.Logic.{_⊎_}
 use Prim.Native.Nat.{ℕ}
