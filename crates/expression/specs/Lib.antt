@@ -9,3 +9,4 @@ pub mod Fronts
 pub mod Decide
 pub mod Starred
 pub mod StarredLaws
+pub mod Total

@@ -1,0 +1,15 @@
+pub mod Format
+pub mod Means
+pub mod Fronts
+pub mod Then
+pub mod Combine
+pub mod Stretch
+pub mod Parts
+pub mod Alone
+pub mod Entries
+pub mod Document
+pub mod Loads
+pub mod Reading
+pub mod Readings
+pub mod Takings
+pub mod Bounds
