@@ -2,7 +2,7 @@
 use mathlib.Core.Path.{_≡_, refl, sym, ap, _∙_, subst}
 use mathlib.Core.Bool.{Bool, true}
 use mathlib.Core.List.{List, [], _∷_, _++_}
-use mathlib.Core.Logic.{inl, inr, _↔_}
+use mathlib.Core.Logic.{_↔_}
 use Prim.Native.Nat.{ℕ, _<_}
 use native.Mathlib.Decide.{decLt, ℕ-discrete}
 use native.Mathlib.Omega.{arith}
@@ -93,9 +93,9 @@ stands xs ys a d n = refused-first (λ k. k ≡ 0) a xs ys d n
 pub then-next : (xs ys : List Condition) (a : Answer) → AllHold xs → DecidesAt ys 0 a → DecidesAt (xs ++ ys) 0 a
 then-next xs ys a all d = then-second (λ k. k ≡ 0) a xs ys all d
 
--- the first condition refuses; all conditions hold
-pub refused-here : (c : Condition) (cs : List Condition) {a : Answer} {n : ℕ} → (c .holds → ⊥) → Is a n 0 → n ≡ c .number → c .names 0 → DecidesAt (c ∷ cs) 0 a
-refused-here c cs {a} fails is e p = inl (fails, is .number ∙ e, subst (c .names) (sym (is .place)) p)
+-- a condition that does not hold, and its refusal; and the end of a list that holds
+pub refused : {P : Type 0} {a : Answer} {n : ℕ} → (P → ⊥) → Is a n 0 → (P → ⊥) × (a .number ≡ n) × (a .place ≡ 0)
+refused fails is = (fails, is .number, is .place)
 
 pub granted-here : {a : Answer} → Is a done 0 → DecidesAt [] 0 a
 granted-here is = (is .number, is .place)

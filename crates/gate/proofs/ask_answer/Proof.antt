@@ -1,44 +1,73 @@
+-- `gate::ask_answer` meets its contract: a refusal of the stage before stands, else the mediating test decides. Assumes nothing.
+use mathlib.Core.Path.{refl}
+use mathlib.Core.List.{[], _∷_}
+use mathlib.Core.Logic.{inl, inr}
+use borrow.Author.Tests.{not-true, not-false}
+use Rattle.logic.specs.Iff.{not-then-false}
+use Rattle.answer.specs.Answers.{AllHold}
+use Rattle.policy.specs.declared.State.{State}
+use Rattle.policy.specs.WellFormed.{Examines}
+use Rattle.rules.specs.Rules.{RoleMediates}
+use Rattle.gate.specs.Requests.{rowConditions, mediated}
+use Rattle.gate.specs.Laws.{shown, row-named}
+use Rattle.gate.proofs.Stages.{at-hand, told, stands, then-next, refused, granted-here}
 use borrow.Author.Needs.{needs}
 use Rattle.gate.proofs.ask_answer.Statement.{statement}
 use Rattle.gate.proofs.ask_answer.Tie as tie
-use Rattle.gate.proofs.ask_answer.Reads as reads
-use Rattle.gate.proofs.ask_answer.Lts as lts
-use Rattle.answer.proofs.Answer.granted.Reads as granted-reads
-use Rattle.answer.proofs.Answer.of.Reads as of-reads
-use Rattle.gate.proofs.row_answer.Reads as row-answer-reads
-use Rattle.rules.proofs.mediates.Reads as mediates-reads
 
--- src/lib.rt:96:9
+-- past the first test the stage before has granted, and so its conditions hold
+passed : (c : tie.Else1) (s : State) → let a = c .before .before .before .args in Examines s (a .slot) (a .file) (a .seen)
+    → AllHold (rowConditions s (a .slot) (a .file) (a .mode) (a .mode))
+passed c s x =
+    let a = c .before .before .before .args in
+    let stage = c .before .before .row-answer in
+    let granted = c .before .granted .ensures .0 (not-false _ (c .if1 .left)) in
+    shown (rowConditions s (a .slot) (a .file) (a .mode) (a .mode)) 0 (stage .result) refl (stage .ensures s x) granted
+
 row-answer-requires : tie.Need-row-answer-requires
-row-answer-requires c κs = search needs
+row-answer-requires c κs = (c .pre, λ h. h)
 
--- src/lib.rt:97:9
 granted-requires : tie.Need-granted-requires
 granted-requires c κs = search needs
 
--- src/lib.rt:98:9
 returns : tie.Need-returns
-returns c = ?
+returns c = λ s x.
+    let a = c .before .before .before .args in
+    let stage = c .before .before .row-answer in
+    let not-granted = not-then-false (c .before .granted .ensures) (not-true _ (c .if1 .taken)) in
+    stands (rowConditions s (a .slot) (a .file) (a .mode) (a .mode)) (mediated s (a .slot) (a .file) (a .mode) ∷ []) (stage .result) (stage .ensures s x) not-granted
 
--- src/lib.rt:104:9
 mediates-requires : tie.Need-mediates-requires
-mediates-requires c κs = ?
+mediates-requires c κs =
+    let (s, x) = c .before .before .before .before .before .before .before .pre in
+    let row = row-named s _ _ _ _ (passed (c .before .before .before .before) s x) in
+    at-hand x (row .session) (row .present)
 
--- src/lib.rt:105:9
 of-requires : tie.Need-of-requires
 of-requires c κs = search needs
 
--- src/lib.rt:105:9
 returns-2 : tie.Need-returns-2
-returns-2 c = ?
+returns-2 c = λ s x.
+    let a = c .before .before .before .before .before .before .before .before .before .before .args in
+    let all = passed (c .before .before .before .before .before .before .before) s x in
+    let row = row-named s (a .slot) (a .file) (a .mode) (a .mode) all in
+    let test = told x (row .session) (row .present) (λ t r f. RoleMediates t r f (a .mode)) (c .before .before .mediates .ensures) in
+    let fails = not-then-false test (not-true _ (c .before .if2 .taken)) in
+    then-next (rowConditions s (a .slot) (a .file) (a .mode) (a .mode)) (mediated s (a .slot) (a .file) (a .mode) ∷ []) _ all
+    (inl (refused fails (c .of .ensures)))
 
--- src/lib.rt:107:5
 of-requires-2 : tie.Need-of-requires-2
 of-requires-2 c κs = search needs
 
--- src/lib.rt:92:1
 returns-3 : tie.Need-returns-3
-returns-3 c = ?
+returns-3 c = λ s x.
+    let a = c .before .before .before .before .before .before .before .before .before .before .args in
+    let all = passed (c .before .before .before .before .before .before .before) s x in
+    let row = row-named s (a .slot) (a .file) (a .mode) (a .mode) all in
+    let test = told x (row .session) (row .present) (λ t r f. RoleMediates t r f (a .mode)) (c .before .before .mediates .ensures) in
+    let fits = test .0 (not-false _ (c .before .if2 .left)) in
+    then-next (rowConditions s (a .slot) (a .file) (a .mode) (a .mode)) (mediated s (a .slot) (a .file) (a .mode) ∷ []) _ all
+    (inr (fits, granted-here (c .of2 .ensures)))
 
 pub ask-answer-spec : {M : Type 1} → statement M
 ask-answer-spec =

@@ -1,46 +1,58 @@
+-- `gate::begin` meets its contract: a grant gives the slot its role, a refusal gives back what was seen. Assumes nothing.
+use mathlib.Core.Path.{refl}
+use native.Mathlib.Omega.{arith}
+use Rattle.logic.specs.Iff.{not-then-false}
+use Rattle.answer.specs.Answers.{Granted}
+use Rattle.policy.specs.State.{By}
+use Rattle.gate.specs.Granted.{BeginGranted}
+use Rattle.gate.specs.Laws.{begin-granted}
+use Rattle.gate.proofs.Stages.{at-within, after-kept, after-hold, tells-granted, tells-refused}
 use borrow.Author.Needs.{needs}
 use Rattle.gate.proofs.begin.Statement.{statement}
 use Rattle.gate.proofs.begin.Tie as tie
-use Rattle.gate.proofs.begin.Reads as reads
-use Rattle.gate.proofs.begin.Lts as lts
-use Rattle.answer.proofs.Answer.granted.Reads as granted-reads
-use Rattle.gate.proofs.begin_answer.Reads as begin-answer-reads
-use Rattle.gate.proofs.file_effect.Reads as file-effect-reads
-use Rattle.gate.proofs.slot_effect.Reads as slot-effect-reads
-use Rattle.policy.proofs.State.examine.Reads as examine-reads
-use Rattle.policy.proofs.held_by.Reads as held-by-reads
 
--- src/lib.rt:197:9
+-- what a grant tells
+known : (c : tie.Then1) → let a = c .before .before .before .before .args in BeginGranted (a .s) (a .slot) (a .role)
+known c =
+    let a = c .before .before .before .before .args in
+    let stage = c .before .before .begin-answer in
+    begin-granted (a .s) (a .slot) (stage .result) (a .role) (stage .ensures 0 (a .s) (c .before .before .before .examine .ensures))
+    (c .before .granted .ensures .0 (c .if1 .taken))
+
 examine-requires : tie.Need-examine-requires
 examine-requires c κs = search needs
 
--- src/lib.rt:198:9
 begin-answer-requires : tie.Need-begin-answer-requires
 begin-answer-requires c κs = search needs
 
--- src/lib.rt:199:8
 granted-requires : tie.Need-granted-requires
 granted-requires c κs = search needs
 
--- src/lib.rt:200:57
 held-by-requires : tie.Need-held-by-requires
-held-by-requires c κs = ?
+held-by-requires c κs = let h = known c in omega (arith, h .present, h .well-formed .role-count)
 
--- src/lib.rt:200:9
 slot-effect-requires : tie.Need-slot-effect-requires
-slot-effect-requires c κs = ?
+slot-effect-requires c κs = known (c .before) .known
 
--- src/lib.rt:200:9
 returns : tie.Need-returns
-returns c = ?
+returns c =
+    let a = c .before .before .before .before .before .before .args in
+    let x = c .before .before .before .before .before .examine .ensures in
+    let stage = c .before .before .before .before .begin-answer in
+    let granted = c .before .before .before .granted .ensures .0 (c .before .before .if1 .taken) in
+    rw (c .slot-effect .ensures, c .before .held-by .ensures)
+    (tells-granted (stage .ensures 0 (a .s) x) refl (at-within x) granted (after-hold x (stage .result) (By (a .role))))
 
--- src/lib.rt:203:5
 file-effect-requires : tie.Need-file-effect-requires
 file-effect-requires c κs = search needs
 
--- src/lib.rt:194:1
 returns-2 : tie.Need-returns-2
-returns-2 c = ?
+returns-2 c =
+    let a = c .before .before .before .before .before .before .args in
+    let x = c .before .before .before .before .before .examine .ensures in
+    let stage = c .before .before .before .before .begin-answer in
+    let not-granted = not-then-false (c .before .before .before .granted .ensures) (c .before .before .if1 .left) in
+    rw (c .file-effect .ensures) (tells-refused (stage .ensures 0 (a .s) x) refl (at-within x) not-granted (after-kept x (stage .result)))
 
 pub begin-spec : {M : Type 1} → statement M
 begin-spec =

@@ -1,41 +1,47 @@
+-- `gate::end` meets its contract: a grant frees the slot, a refusal gives back what was seen. Assumes nothing.
+use mathlib.Core.Path.{refl}
+use Rattle.logic.specs.Iff.{not-then-false}
+use Rattle.policy.specs.State.{Free}
+use Rattle.gate.specs.Laws.{end-granted}
+use Rattle.gate.proofs.Stages.{at-within, after-kept, after-hold, tells-granted, tells-refused}
 use borrow.Author.Needs.{needs}
 use Rattle.gate.proofs.end.Statement.{statement}
 use Rattle.gate.proofs.end.Tie as tie
-use Rattle.gate.proofs.end.Reads as reads
-use Rattle.gate.proofs.end.Lts as lts
-use Rattle.answer.proofs.Answer.granted.Reads as granted-reads
-use Rattle.gate.proofs.file_effect.Reads as file-effect-reads
-use Rattle.gate.proofs.session_answer.Reads as session-answer-reads
-use Rattle.gate.proofs.slot_effect.Reads as slot-effect-reads
-use Rattle.policy.proofs.State.examine.Reads as examine-reads
 
--- src/lib.rt:210:9
 examine-requires : tie.Need-examine-requires
 examine-requires c κs = search needs
 
--- src/lib.rt:211:9
 session-answer-requires : tie.Need-session-answer-requires
 session-answer-requires c κs = search needs
 
--- src/lib.rt:212:8
 granted-requires : tie.Need-granted-requires
 granted-requires c κs = search needs
 
--- src/lib.rt:213:9
 slot-effect-requires : tie.Need-slot-effect-requires
-slot-effect-requires c κs = ?
+slot-effect-requires c κs =
+    let a = c .before .before .before .before .args in
+    let stage = c .before .before .session-answer in
+    let granted = c .before .granted .ensures .0 (c .if1 .taken) in
+    end-granted (a .s) (a .slot) (stage .result) (stage .ensures 0 (a .s) (c .before .before .before .examine .ensures)) granted .known
 
--- src/lib.rt:213:9
 returns : tie.Need-returns
-returns c = ?
+returns c =
+    let a = c .before .before .before .before .before .args in
+    let x = c .before .before .before .before .examine .ensures in
+    let stage = c .before .before .before .session-answer in
+    let granted = c .before .before .granted .ensures .0 (c .before .if1 .taken) in
+    rw (c .slot-effect .ensures) (tells-granted (stage .ensures 0 (a .s) x) refl (at-within x) granted (after-hold x (stage .result) Free))
 
--- src/lib.rt:216:5
 file-effect-requires : tie.Need-file-effect-requires
 file-effect-requires c κs = search needs
 
--- src/lib.rt:207:1
 returns-2 : tie.Need-returns-2
-returns-2 c = ?
+returns-2 c =
+    let a = c .before .before .before .before .before .before .args in
+    let x = c .before .before .before .before .before .examine .ensures in
+    let stage = c .before .before .before .before .session-answer in
+    let not-granted = not-then-false (c .before .before .before .granted .ensures) (c .before .before .if1 .left) in
+    rw (c .file-effect .ensures) (tells-refused (stage .ensures 0 (a .s) x) refl (at-within x) not-granted (after-kept x (stage .result)))
 
 pub end-spec : {M : Type 1} → statement M
 end-spec =
