@@ -8,7 +8,8 @@ use Rattle.securon.specs.Sets.{Set}
 use Rattle.expression.specs.Bytes.{SET}
 use Rattle.policy.specs.declared.State.{State}
 use Rattle.policy.specs.State.{modeCount, eOf, gOf}
-use Rattle.claims.specs.Trace.{load, Step, Event, Run, Quiet, Reached, PassesIndelible}
+use Rattle.machine.specs.Machine.{load, Step, Event, Run}
+use Rattle.claims.specs.Trace.{Quiet, Reached, PassesIndelible}
 use Rattle.claims.specs.TraceLaws.{run-keeps}
 use Rattle.claims.specs.MoveLaws.{reached-confines, passes-first}
 

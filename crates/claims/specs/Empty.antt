@@ -4,13 +4,12 @@ use native.Mathlib.Nat.{not-suc-le-zero}
 use lib.Dec.{lit<}
 use Rattle.answer.specs.declared.Answer.{Answer}
 use Rattle.answer.specs.Answers.{Granted}
-use Rattle.policy.specs.declared.Hold.the-variants.{By}
+use Rattle.policy.specs.State.{By, freshState, holdOf}
 use Rattle.policy.specs.declared.State.{State}
-use Rattle.policy.specs.State.{freshState, holdOf}
 use Rattle.policy.specs.Reads.{hold-here}
 use Rattle.gate.specs.Requests.{beginConditions}
 use Rattle.answer.specs.Lists.{granted-all, all-granted}
-use Rattle.claims.specs.Trace.{Request, begin, Step}
+use Rattle.machine.specs.Machine.{Request, begin, Step}
 use Rattle.claims.specs.TraceLaws.{free-by}
 use Rattle.claims.specs.Sample.{sample, sample-well-formed, sample-free, sample-counts}
 

@@ -14,14 +14,14 @@ use Rattle.expression.specs.Bytes.{SET, MeetsT1}
 use Rattle.expression.specs.Laws.{meets-term}
 use Rattle.expression.specs.Scan.{bytes-some}
 use Rattle.expression.specs.Unique.{one-expression}
-use Rattle.policy.specs.declared.Hold.the-variants.{Free, By}
+use Rattle.policy.specs.State.{Free, By, read, write, changeProtection, holdOf, withHold, withEG, t1Of, eOf, t2Of, gOf}
 use Rattle.policy.specs.declared.State.{State}
-use Rattle.policy.specs.State.{read, write, changeProtection, holdOf, withHold, withEG, t1Of, eOf, t2Of, gOf}
 use Rattle.policy.specs.WellFormed.{WellFormed}
 use Rattle.policy.specs.Kept.{by-kept, free-kept}
 use Rattle.policy.specs.Reads.{hold-here, eg-reads}
 use Rattle.rules.specs.Rules.{PassesRow, Passes, Mediates, Covers}
-use Rattle.claims.specs.Trace.{begin, end, ask, bypass, Step, Event, Run, none, next, Quiet, Move, PassesIndelible}
+use Rattle.machine.specs.Machine.{begin, end, ask, bypass, Step, Event, Run, none, next}
+use Rattle.claims.specs.Trace.{Quiet, Move, PassesIndelible}
 use Rattle.claims.specs.Steps.{granted, done, begin-step, end-step, ask-step, bypass-step}
 use Rattle.claims.specs.MoveLaws.{move-confines}
 use Rattle.claims.specs.Sample.{root, sample, sample-well-formed, RoleParts, FileParts, sample-role0, sample-role1, sample-role2, sample-file0, sample-file1, sample-file2, sample-file3, sample-depth, sample-free, sample-counts, freed-again}

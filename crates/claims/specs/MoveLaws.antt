@@ -15,7 +15,8 @@ use Rattle.rules.specs.Rules.{Mediates}
 use Rattle.gate.specs.Requests.{Session, Asks, askConditions}
 use Rattle.answer.specs.Lists.{granted-all}
 use Rattle.gate.specs.Laws.{one-role}
-use Rattle.claims.specs.Trace.{Request, ask, Step, Event, Run, next, Quiet, Grants, Move, ReachedBy, itself, moved, PassesIndelible}
+use Rattle.machine.specs.Machine.{Request, ask, Step, Event, Run, next, Grants}
+use Rattle.claims.specs.Trace.{Quiet, Move, ReachedBy, itself, moved, PassesIndelible}
 use Rattle.claims.specs.TraceLaws.{Kept, kept-then, run-keeps, run-holds, run-split, quiet-split}
 
 -- who reads b by its indelible parts holds what a's indelible parts ask: E and G of a's Read row are within those of b's

@@ -9,9 +9,8 @@ use Rattle.tree.specs.Tree.{IsDepth}
 use Rattle.expression.specs.declared.Kind.{Kind}
 use Rattle.expression.specs.Expression.{one, term}
 use Rattle.expression.specs.Bytes.{InOrder}
-use Rattle.policy.specs.declared.Hold.the-variants.{Free, By}
+use Rattle.policy.specs.State.{Free, By, read, write, changeProtection, vPlusPlace, m1Place, bPlace, roleAt, freshState, setNroles, setNfiles, withRole, putRole, withT1T2, withEG, withHold, holdOf, vPlusOf, vMinusOf, m1Of, m2Of, bOf, t1Of, eOf, t2Of, gOf}
 use Rattle.policy.specs.declared.State.{State}
-use Rattle.policy.specs.State.{read, write, changeProtection, vPlusPlace, m1Place, bPlace, roleAt, freshState, setNroles, setNfiles, withRole, putRole, withT1T2, withEG, withHold, holdOf, vPlusOf, vMinusOf, m1Of, m2Of, bOf, t1Of, eOf, t2Of, gOf}
 use Rattle.shelf.specs.Shelf.{putBytes, padded}
 use Rattle.policy.specs.WellFormed.{WellFormed}
 use Rattle.policy.specs.Fresh.{root-depth, fresh-well-formed}

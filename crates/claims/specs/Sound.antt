@@ -18,7 +18,7 @@ use Rattle.policy.specs.WellFormed.{WellFormed}
 use Rattle.policy.specs.Fresh.{fresh-well-formed}
 use Rattle.gate.specs.Requests.{beginConditions, endConditions, askConditions, changeConditions, bypassConditions}
 use Rattle.gate.specs.Laws.{begin-kept, end-kept, change-kept, bypass-kept}
-use Rattle.claims.specs.Trace.{Request, load, begin, end, ask, change, bypass, Step, Event, Run, none, next}
+use Rattle.machine.specs.Machine.{Request, load, begin, end, ask, change, bypass, Step, Event, Run, none, next}
 
 pub step-well-formed : (a : Answer) (s t : State) (q : Request) → WellFormed s → Step s q a t → WellFormed t
 step-well-formed a s t (load image) w st = go (ℕ-discrete (a .number) 0)

@@ -7,12 +7,11 @@ use Rattle.answer.specs.declared.Answer.{Answer}
 use Rattle.answer.specs.Answers.{Leaves}
 use Rattle.expression.specs.declared.Kind.the-variants.{Privilege}
 use Rattle.expression.specs.Judge.{InOrderOver}
-use Rattle.policy.specs.declared.Hold.the-variants.{Free, By}
+use Rattle.policy.specs.State.{Free, By, slotCount, modeCount, changeProtection, holdOf, withHold, withEG}
 use Rattle.policy.specs.declared.State.{State}
-use Rattle.policy.specs.State.{slotCount, modeCount, changeProtection, holdOf, withHold, withEG}
 use Rattle.policy.specs.WellFormed.{WellFormed}
 use Rattle.rules.specs.Rules.{Passes, Mediates, Covers}
-use Rattle.claims.specs.Trace.{Request, begin, end, ask, bypass, Step, Event}
+use Rattle.machine.specs.Machine.{Request, begin, end, ask, bypass, Step, Event}
 
 -- the answer of a grant
 abbrev pub granted : Answer

@@ -6,14 +6,13 @@ use native.Mathlib.Decide.{ℕ-discrete}
 use native.Mathlib.Omega.{arith}
 use Rattle.answer.specs.declared.Answer.{Answer}
 use Rattle.answer.specs.Answers.{Granted}
-use Rattle.policy.specs.declared.Hold.{Hold}
-use Rattle.policy.specs.declared.Hold.the-variants.{Free, By}
+use Rattle.policy.specs.State.{Hold, Free, By, modeCount, holdOf, eOf, gOf, withHold, withT1T2}
 use Rattle.policy.specs.declared.State.{State}
-use Rattle.policy.specs.State.{modeCount, holdOf, eOf, gOf, withHold, withT1T2}
 use Rattle.policy.specs.Reads.{hold-there, change-keeps}
 use Rattle.gate.specs.Requests.{beginConditions, endConditions, changeConditions}
 use Rattle.answer.specs.Lists.{granted-all}
-use Rattle.claims.specs.Trace.{Request, load, begin, end, ask, change, bypass, Step, Event, Run, none, next, Resets, Quiet, NoEnd}
+use Rattle.machine.specs.Machine.{Request, load, begin, end, ask, change, bypass, Step, Event, Run, none, next}
+use Rattle.claims.specs.Trace.{Resets, Quiet, NoEnd}
 
 -- the tree, the roles and every indelible part of t are those of s
 pub record Kept (s t : State) : Type 0 where

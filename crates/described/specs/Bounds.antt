@@ -15,13 +15,10 @@ use Rattle.fields.specs.Format.{Refusal, Format}
 use Rattle.fields.specs.Means.{Judging, Test}
 use Rattle.fields.specs.Combine.{give, _>>=_, _>>_, times}
 use Rattle.fields.specs.Parts.{just, below, between, stretch, byByte, first, byte, firstTwo, word}
-use Rattle.fields.specs.Bounds.{NumbersUnder, under-then, under-times, under-stretch, under-value, under-alone}
-use Rattle.fields.specs.Bounds.{AtMost, most-then, most-times, most-stretch, most-value}
+use Rattle.fields.specs.Bounds.{NumbersUnder, under-then, under-times, under-stretch, under-value, under-alone, AtMost, most-then, most-times, most-stretch, most-value}
 use Rattle.fields.specs.Document.{alone}
 use Rattle.fields.specs.Takings.{byte-is, made-takes}
-use Rattle.described.specs.Image.{Expressions, Policy, Layout, Versions, version1, mostInVersion1, longestImage, roleKinds, fileKinds}
-use Rattle.described.specs.Image.{markS, markP, markT, noMark, noVersion, noCount, noParent, noExpression}
-use Rattle.described.specs.Image.{expression, shelf, counted, parentBytes, treeOf, withFiles, withRoles, body, head, policyImage, image}
+use Rattle.described.specs.Image.{Expressions, Policy, Layout, Versions, version1, mostInVersion1, longestImage, roleKinds, fileKinds, markS, markP, markT, noMark, noVersion, noCount, noParent, noExpression, expression, shelf, counted, parentBytes, treeOf, withFiles, withRoles, body, head, policyImage, image}
 
 -- one byte, whatever is tested
 abbrev digit : ℕ

@@ -15,8 +15,7 @@ use Rattle.policy.specs.Fine.{TreeFine}
 use Rattle.policy.specs.Fresh.{zero-shelf}
 use Rattle.fields.specs.Parts.{below, between, byte}
 use Rattle.fields.specs.Takings.{byte-is, times-takes, made-takes}
-use Rattle.described.specs.Image.{Expressions, Policy, Layout, version1, mostInVersion1, noCount, noParent, noExpression}
-use Rattle.described.specs.Image.{expressionBytes, expression, shelf, counted, parentBytes, treeOf, withFiles, withRoles, body, policyImage, image}
+use Rattle.described.specs.Image.{Expressions, Policy, Layout, version1, mostInVersion1, noCount, noParent, noExpression, expressionBytes, expression, shelf, counted, parentBytes, treeOf, withFiles, withRoles, body, policyImage, image}
 
 -- expressions in order for these kinds, place by place, over n securons and the depth d
 pub record InPlace (kinds : List Kind) (n d : ℕ) (xs : Expressions) : Type 0 where

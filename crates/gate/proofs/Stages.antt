@@ -22,8 +22,7 @@ use Rattle.policy.specs.declared.Role.{Role}
 use Rattle.policy.specs.declared.File.{File}
 use Rattle.policy.specs.declared.State.{State}
 use Rattle.policy.specs.declared.Examined.{Examined}
-use Rattle.policy.specs.State.{mostRoles, mostFiles, Hold, heldIn, slotWith, Present, roleAt, fileAt, roleOf, holdOf, setFiles, setSlots, withHold, withFile}
-use Rattle.policy.specs.State.{putPair, withPair}
+use Rattle.policy.specs.State.{mostRoles, mostFiles, Hold, heldIn, slotWith, Present, roleAt, fileAt, roleOf, holdOf, setFiles, setSlots, withHold, withFile, putPair, withPair}
 use Rattle.policy.specs.WellFormed.{RoleInOrder, FileInOrder, WellFormed, Examines}
 use Rattle.policy.specs.Whole.{session-holds}
 use Rattle.rules.specs.AtHand.{AtHand}

@@ -19,8 +19,7 @@ use Rattle.policy.specs.WellFormed.{WellFormed}
 use Rattle.policy.specs.Kept.{by-kept, free-kept, t1t2-kept, eg-kept}
 use Rattle.policy.specs.Reads.{hold-here}
 use Rattle.gate.specs.declared.Effect.{Effect}
-use Rattle.gate.specs.Requests.{Outcome, beginConditions, sessionConditions, endConditions, rowConditions, askConditions, storeConditions}
-use Rattle.gate.specs.Requests.{covered, changeConditions, bypassConditions, Does, Begins, Ends, Asks, Changes, Bypasses}
+use Rattle.gate.specs.Requests.{Outcome, beginConditions, sessionConditions, endConditions, rowConditions, askConditions, storeConditions, covered, changeConditions, bypassConditions, Does, Begins, Ends, Asks, Changes, Bypasses}
 use Rattle.gate.specs.Effects.{outcome, Tells}
 use Rattle.gate.specs.Granted.{BeginGranted, SessionGranted, RowGranted, AskGranted, StoreGranted, ChangeGranted, BypassGranted}
 

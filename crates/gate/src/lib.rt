@@ -10,8 +10,7 @@ ghost use lib.ListN.{length, set};
 ghost use Rattle.answer.specs.Answers.{Granted, DecidesAt};
 ghost use Rattle.expression.specs.Bytes.{longest};
 ghost use Rattle.policy.specs.State.{slotCount, IsMode, filePlace};
-ghost use Rattle.gate.specs.Requests.{sessionConditions, rowConditions, storeConditions, beginConditions, askConditions, bypassConditions};
-ghost use Rattle.gate.specs.Requests.{Begins, Ends, Asks, Changes, Bypasses};
+ghost use Rattle.gate.specs.Requests.{sessionConditions, rowConditions, storeConditions, beginConditions, askConditions, bypassConditions, Begins, Ends, Asks, Changes, Bypasses};
 ghost use Rattle.gate.specs.Effects.{effectOf, Tells};
 ghost use Rattle.gate.specs.Parts.{Seen, Of, OfAll, StoredIs};
 

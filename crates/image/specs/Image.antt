@@ -8,9 +8,8 @@ use Rattle.tree.specs.declared.Tree.{Tree}
 use Rattle.expression.specs.Bytes.{longest}
 use Rattle.policy.specs.declared.Role.{Role}
 use Rattle.policy.specs.declared.File.{File}
-use Rattle.policy.specs.declared.Hold.the-variants.{Free}
+use Rattle.policy.specs.State.{Free, mostRoles, mostFiles, slotCount, modeCount, rolePlaces, filePlaces, vPlusPlace, vMinusPlace, m1Place, m2Place, bPlace, t1Place, ePlace, t2Place, gPlace, roleAt, fileAt, holdOf, rolePart, filePart}
 use Rattle.policy.specs.declared.State.{State}
-use Rattle.policy.specs.State.{mostRoles, mostFiles, slotCount, modeCount, rolePlaces, filePlaces, vPlusPlace, vMinusPlace, m1Place, m2Place, bPlace, t1Place, ePlace, t2Place, gPlace, roleAt, fileAt, holdOf, rolePart, filePart}
 use Rattle.policy.specs.WellFormed.{WellFormed}
 
 -- k stretches, one after another

@@ -8,10 +8,9 @@ use Rattle.answer.specs.Numbers.{endsEarly, leftOver}
 use Rattle.answer.specs.declared.Answer.{Answer}
 use Rattle.answer.specs.Answers.{Granted, Is, Leaves}
 use Rattle.answer.specs.Laws.{one-left}
-use Rattle.policy.specs.declared.Hold.the-variants.{Free}
+use Rattle.policy.specs.State.{Free, slotCount, freeSlot, holdOf, freshState}
 use Rattle.policy.specs.declared.Slot.{Slot}
 use Rattle.policy.specs.declared.State.{State}
-use Rattle.policy.specs.State.{slotCount, freeSlot, holdOf, freshState}
 use Rattle.policy.specs.WellFormed.{WellFormed}
 use Rattle.policy.specs.Fresh.{fresh-well-formed}
 use Rattle.image.specs.declared.Met.{Met}

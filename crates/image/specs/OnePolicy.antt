@@ -14,10 +14,9 @@ use Rattle.tree.specs.declared.Tree.{Tree}
 use Rattle.expression.specs.Bytes.{longest}
 use Rattle.policy.specs.declared.Role.{Role}
 use Rattle.policy.specs.declared.File.{File}
-use Rattle.policy.specs.declared.Hold.{Hold}
+use Rattle.policy.specs.State.{Hold, mostRoles, mostFiles, slotCount, offRole, offFile, freeSlot, roleAt, fileAt}
 use Rattle.policy.specs.declared.Slot.{Slot}
 use Rattle.policy.specs.declared.State.{State}
-use Rattle.policy.specs.State.{mostRoles, mostFiles, slotCount, offRole, offFile, freeSlot, roleAt, fileAt}
 use Rattle.shelf.specs.Shelf.{storedAt, HasPlaces, AllZero, ZeroShelf}
 use Rattle.shelf.specs.Fine.{ShelfFine}
 use Rattle.policy.specs.Fine.{TreeFine, OneIs, roleShelves, fileShelves}

@@ -13,7 +13,7 @@ use Rattle.image.specs.Image.{expressionBytes}
 use Rattle.image.specs.Load.{Loads}
 use Rattle.image.specs.Inside.{load-inside}
 use Rattle.gate.specs.Small.{Small, begin-small, end-small, ask-small, change-small, bypass-small}
-use Rattle.claims.specs.Trace.{Request, Step}
+use Rattle.machine.specs.Machine.{Request, Step}
 use Rattle.lines.specs.Lines.{Line}
 use Rattle.lines.specs.Lengths.{line-length, under-power}
 use Rattle.script.specs.Script.{Reads, a-begin, an-end, an-ask, a-change, a-bypass, Plays, ended, called, cut, Prints, stated, imageIn}

@@ -13,8 +13,8 @@ use Rattle.answer.specs.declared.Answer.{Answer}
 use Rattle.policy.specs.declared.State.{State}
 use Rattle.policy.specs.State.{freshState}
 use Rattle.image.specs.Image.{expressionBytes}
-use Rattle.claims.specs.Trace.{Request, load, begin, end, ask, change, bypass, Step}
-use Rattle.claims.specs.Demand1.{Same, one-answer-and-one-state}
+use Rattle.machine.specs.Machine.{Request, load, begin, end, ask, change, bypass, Step}
+use Rattle.machine.specs.Laws.{Same, one-step}
 use Rattle.lines.specs.Lines.{Line}
 use Rattle.lines.specs.Laws.{one-line}
 use Rattle.script.specs.Script.{Reads, a-begin, an-end, an-ask, a-change, a-bypass, Plays, ended, called, cut, Prints, stated, imageIn, over, Replays}
@@ -79,7 +79,7 @@ none-in a-bypass e = let z = ap length e in omega arith
 
 -- ---- one output
 one-step : (s t u : State) (q p : Request) (a b : Answer) → Step s q a t → Step s p b u → q ≡ p → Same a b t u
-one-step s t u q p a b x y e = one-answer-and-one-state s q a b t u x (subst (λ (o : Request). Step s o b u) (sym e) y)
+one-step s t u q p a b x y e = one-step s q a b t u x (subst (λ (o : Request). Step s o b u) (sym e) y)
 
 same-line : {a b : Answer} {l m : List ℕ} → Line a [] l → Line b [] m → a ≡ b → l ≡ m
 same-line {m = m} x y e = one-line x (subst (λ (o : Answer). Line o [] m) (sym e) y)
@@ -104,7 +104,7 @@ one-printed (inl x) (inl y) = x .1 ∙ sym (y .1)
 one-printed (inl x) (inr y) = absurd (omega (arith, x .0, y .two))
 one-printed (inr x) (inl y) = absurd (omega (arith, y .0, x .two))
 one-printed {input} (inr x) (inr y) =
-    let d = one-answer-and-one-state freshState (load (imageIn input)) (x .answer) (y .answer) (x .state) (y .state) (x .loads) (y .loads) in
+    let d = one-step freshState (load (imageIn input)) (x .answer) (y .answer) (x .state) (y .state) (x .loads) (y .loads) in
     x .is ∙ ap₂ _++_ (same-line (x .is-line) (y .is-line) (d .answer)) (go (d .state) (decLe (2 + stated input) (length input))) ∙ sym (y .is)
   where
     go : x .state ≡ y .state → Dec (2 + stated input ≤ length input) → x .rest ≡ y .rest

@@ -6,7 +6,7 @@ use Prim.Native.Nat.{ℕ, _<_, _≤_}
 use lib.ListN.{length, drop}
 use Rattle.answer.specs.declared.Answer.{Answer}
 use Rattle.policy.specs.declared.State.{State}
-use Rattle.claims.specs.Trace.{Request, Step}
+use Rattle.machine.specs.Machine.{Request, Step}
 use Rattle.lines.specs.Lines.{Line}
 use Rattle.gate.specs.Effects.{Tells}
 use Rattle.script.specs.declared.Told.{Told}

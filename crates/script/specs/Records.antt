@@ -9,7 +9,7 @@ use native.Mathlib.Omega.{arith}
 use lib.ListN.{length, getD, take, drop, length-append, take-append-drop, length-drop}
 use lib.Seq.{length-take-le, drop-drop, drop-cons, getD-drop, getD-append-seam}
 use Rattle.image.specs.Image.{expressionBytes}
-use Rattle.claims.specs.Trace.{Request, begin, end, ask, change, bypass}
+use Rattle.machine.specs.Machine.{Request, begin, end, ask, change, bypass}
 use Rattle.script.specs.Script.{Reads, a-begin, an-end, an-ask, a-change, a-bypass}
 
 -- no record stands at the front

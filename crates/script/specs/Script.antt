@@ -8,7 +8,7 @@ use Rattle.answer.specs.declared.Answer.{Answer}
 use Rattle.policy.specs.declared.State.{State}
 use Rattle.policy.specs.State.{freshState}
 use Rattle.image.specs.Image.{lowFirst, expressionBytes}
-use Rattle.claims.specs.Trace.{Request, load, begin, end, ask, change, bypass, Step}
+use Rattle.machine.specs.Machine.{Request, load, begin, end, ask, change, bypass, Step}
 use Rattle.lines.specs.Lines.{Line}
 
 -- a record and what comes after it: 01 slot role; 02 slot; 03 slot file mode; 04 or 05 slot file mode, length byte and bytes, twice (change, bypass)

@@ -8,7 +8,7 @@ ghost use mathlib.Core.List.{[], _∷_};
 ghost use Prim.Native.Nat.{_+_, _<_, _≤_, min};
 ghost use lib.ListN.{length, getD, drop};
 ghost use Rattle.gate.specs.Effects.{Tells};
-ghost use Rattle.claims.specs.Trace.{Step};
+ghost use Rattle.machine.specs.Machine.{Step};
 ghost use Rattle.script.specs.Script.{Replays};
 ghost use Rattle.script.specs.Records.{storeOf};
 ghost use Rattle.script.specs.Playing.{Bounded, PlayedIs, Puts, PutsLine, ToldIs, PlayedOn};

@@ -1,8 +1,7 @@
 -- `rules::covers` meets its contract: the sets at hand have the members of those that are meant, and E and G are tested one after the other. Assumes nothing.
 use native.Mathlib.Omega.{arith}
 use borrow.Author.Tests.{not-true, not-false}
-use Rattle.logic.specs.Iff.{iff-trans, not-then-false}
-use Rattle.logic.specs.Iff.{no-iff}
+use Rattle.logic.specs.Iff.{iff-trans, not-then-false, no-iff}
 use Rattle.rules.proofs.Row.{same-altered}
 use borrow.Author.Needs.{needs}
 use Rattle.rules.proofs.covers.Statement.{statement}

@@ -1,7 +1,6 @@
 -- `rules::passes` meets its contract: the two senses are the four facts. Assumes nothing.
 use borrow.Author.Tests.{not-true, not-false}
-use Rattle.logic.specs.Iff.{iff-trans, not-then-false}
-use Rattle.logic.specs.Iff.{no-iff}
+use Rattle.logic.specs.Iff.{iff-trans, not-then-false, no-iff}
 use borrow.Author.Needs.{needs}
 use Rattle.rules.proofs.passes.Statement.{statement}
 use Rattle.rules.proofs.passes.Tie as tie

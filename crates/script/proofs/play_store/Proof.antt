@@ -7,7 +7,7 @@ use lib.ListN.{getD, take, drop}
 use borrow.Author.Tests.{not-true, not-false}
 use Rattle.script.specs.Records.{secondOf, storeOf, storeIn, stored-cut, store-whole}
 use Rattle.gate.specs.Effects.{after}
-use Rattle.claims.specs.Trace.{Step}
+use Rattle.machine.specs.Machine.{Step}
 use Rattle.script.specs.PlayLaws.{says-cut, parts}
 use borrow.Author.Needs.{needs}
 use Rattle.script.proofs.play_store.Statement.{statement}
