@@ -1,5 +1,6 @@
 -- Each promise leaves one answer, and an answer's number and place are those of 01. Assumes nothing.
-use mathlib.Core.Path.{_≡_, refl, sym, ap, _∙_}
+use mathlib.Core.Path.{_≡_, refl, sym, ap, ap₂, _∙_}
+use mathlib.Core.Bool.{Bool}
 use mathlib.Core.List.{List, [], _∷_, _++_}
 use mathlib.Core.Logic.{inl, inr}
 use Prim.Native.Nat.{ℕ, _+_, _<_, _≤_}
@@ -10,7 +11,8 @@ use Rattle.answer.specs.Numbers.{expressionWrong}
 use Rattle.answer.specs.Answers.{Condition, mustAt, Decides}
 use Rattle.answer.specs.Faults.{FaultAt}
 use Rattle.answer.specs.Laws.{AtMostOne, OnePlaceEach, one-fault, no-fault}
-use Rattle.securon.specs.Sets.{Set, _≐_}
+use Rattle.securon.specs.Sets.{Set, _≐_, marked}
+use Rattle.securon.specs.Laws.{one-set}
 use Rattle.logic.specs.Iff.{iff-trans, iff-sym}
 use Rattle.tree.specs.declared.Tree.{Tree}
 use Rattle.expression.specs.declared.Kind.{Kind}
@@ -22,6 +24,7 @@ use Rattle.order.specs.declared.Scanned.{Scanned}
 use Rattle.order.specs.declared.Scanned.the-variants.{Whole, Short, Fault}
 use Rattle.order.specs.declared.Checked.{Checked}
 use Rattle.order.specs.declared.Checked.the-variants.{Fine, Wrong}
+use Rattle.order.specs.declared.Named.{Named}
 use Rattle.order.specs.declared.Mutable.{Mutable}
 use Rattle.order.specs.declared.Judged.{Judged}
 use Rattle.order.specs.declared.Judged.the-variants.{Met, NotMet, Faulty}
@@ -75,6 +78,20 @@ one-named t bs Fine Fine A B p q = (refl, λ u. iff-trans (p .1 u) (iff-sym (q .
 one-named t bs Fine (Wrong k) A B p q = absurd (in-order-not-wrong-over Privilege t bs k (p .0) (q .0))
 one-named t bs (Wrong k) Fine A B p q = absurd (in-order-not-wrong-over Privilege t bs k (q .0) (p .0))
 one-named t bs (Wrong j) (Wrong k) A B p q = (ap Wrong (one-wrong-over Privilege t bs j k (p .0) (q .0)), λ u. iff-trans (p .1 u) (iff-sym (q .1 u)))
+
+-- what is named leaves one value, in arrays of one length
+pub one-naming : (t : Tree) (bs : List ℕ) (a b : Named) → length (a .set .has) ≡ length (b .set .has)
+    → NamesSET t bs (a .checked) (marked (a .set .has)) → NamesSET t bs (b .checked) (marked (b .set .has)) → a ≡ b
+one-naming t bs a b long p q =
+    let o = one-named t bs (a .checked) (b .checked) (marked (a .set .has)) (marked (b .set .has)) p q in
+    let has = one-set (a .set .has) (b .set .has) long (o .1) in
+    ap₂ (λ (c : Checked) (l : List Bool). record { checked = c; set = record { has = l } }) (o .0) has
+
+-- what is said of a privilege: 0 if the bytes are in order; else 6 at their place
+pub name-answers : (t : Tree) (bs : List ℕ) (r : Checked) (A : Set) → NamesSET t bs r A
+    → Decides (inOrder Privilege t 0 bs ∷ []) (λ k. k ≡ 0) (checkAnswer r)
+name-answers t bs Fine A p = inr (p .0, (refl, refl))
+name-answers t bs (Wrong k) A p = inl ((λ w. in-order-not-wrong-over Privilege t bs k w (p .0)), refl, (k, p .0, sym (zero-add k)))
 
 -- what is said of a protection: 0 if the bytes are in order; else 6 at their place
 pub judge-answers : (t : Tree) (part : Mutable) (H : Set) (bs : List ℕ) (r : Judged) → Judges t part H bs r
