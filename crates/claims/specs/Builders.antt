@@ -4,11 +4,10 @@ use mathlib.Core.Bool.{false}
 use mathlib.Core.List.{List, []}
 use mathlib.Core.Logic.{inl}
 use Prim.Native.Nat.{ℕ, _+_, _*_, _-_, _<_, _≤_}
-use native.Mathlib.Nat.{le-refl}
 use native.Mathlib.Decide.{ℕ-discrete, decLt}
 use native.Mathlib.Omega.{arith}
 use borrow.Author.Needs.{zero≤}
-use lib.ListN.{length, getD, take, drop, length-take, List·getD-eq-default}
+use lib.ListN.{length, getD, set, take, drop, length-take, List·getD-eq-default}
 use lib.Seq.{getD-take, getD-drop}
 use Rattle.tree.specs.Tree.{IsDepth}
 use Rattle.expression.specs.declared.Kind.{Kind}
@@ -17,11 +16,16 @@ use Rattle.expression.specs.Bytes.{longest, InOrder}
 use Rattle.policy.specs.declared.Role.{Role}
 use Rattle.policy.specs.declared.File.{File}
 use Rattle.policy.specs.declared.State.{State}
-use Rattle.policy.specs.State.{mostRoles, mostFiles, rolePlaces, roleAt, fileAt, setNroles, setNfiles, withRole, putRole}
-use Rattle.shelf.specs.Shelf.{roomPast, PartInOrder, AllZero, ZeroShelf}
+use Rattle.policy.specs.State.{mostRoles, mostFiles, rolePlaces, roleAt, fileAt, setNroles, setNfiles, withRole}
+use Rattle.shelf.specs.Shelf.{putBytes, roomPast, PartInOrder, AllZero, ZeroShelf}
 use Rattle.policy.specs.WellFormed.{RoleInOrder, FileInOrder, WellFormed}
-use Rattle.policy.specs.Whole.{all-used, all-set, fine-well-formed, well-formed-fine}
+use Rattle.policy.specs.Whole.{role-used, all-used, all-set, fine-well-formed, well-formed-fine}
 use Rattle.shelf.specs.Kept.{put-places, put-fine}
+use Rattle.shelf.specs.Fine.{ShelfFine}
+
+-- the role with x stored at place k
+abbrev pub putRole : Role → ℕ → List ℕ → Role
+putRole r k x = record { lens = set (r .lens) k (length x); bytes = putBytes (r .bytes) k x }
 
 -- a length that is 0 makes an empty part, which is in order for every kind
 take-none : (m : ℕ) (l : List ℕ) → m ≡ 0 → take m l ≡ []
@@ -37,7 +41,10 @@ zero-room : (lens bytes : List ℕ) (k : ℕ) → AllZero bytes → AllZero (roo
 zero-room lens bytes k z i = go (decLt i (longest - getD lens k 0))
   where
     go : Dec (i < longest - getD lens k 0) → getD (roomPast lens bytes k) i 0 ≡ 0
-    go (yes h) = getD-take (longest - getD lens k 0) (drop (longest * k + getD lens k 0) bytes) i 0 h ∙ getD-drop (longest * k + getD lens k 0) bytes i 0 ∙ z (longest * k + getD lens k 0 + i)
+    go (yes h) =
+        getD-take (longest - getD lens k 0) (drop (longest * k + getD lens k 0) bytes) i 0 h
+        ∙ getD-drop (longest * k + getD lens k 0) bytes i 0
+        ∙ z (longest * k + getD lens k 0 + i)
     go (no n) = take-past (longest - getD lens k 0) (drop (longest * k + getD lens k 0) bytes) i (omega arith)
       where
         take-past : (m : ℕ) (l : List ℕ) (i : ℕ) → m ≤ i → getD (take m l) i 0 ≡ 0
@@ -72,9 +79,16 @@ module _ (s : State) (w : WellFormed s) where
   pub one-more-role : s .nroles < mostRoles → WellFormed (setNroles s (s .nroles + 1))
   one-more-role h =
       let z = w .unused-zero in
-      let new = z .roles (s .nroles) (le-refl (s .nroles)) in
+      let new = z .roles (s .nroles) (λ l. omega arith) in
       record {
-        room = record { parents = w .room .parents; roles = w .room .roles; role-places = w .room .role-places; files = w .room .files; file-places = w .room .file-places; slots = w .room .slots };
+        room = record {
+          parents = w .room .parents;
+          roles = w .room .roles;
+          role-places = w .room .role-places;
+          files = w .room .files;
+          file-places = w .room .file-places;
+          slots = w .room .slots;
+        };
         tree = w .tree;
         role-count = omega arith;
         file-count = w .file-count;
@@ -86,8 +100,11 @@ module _ (s : State) (w : WellFormed s) where
         unused-zero = record {
           root = z .root;
           parents = z .parents;
-          role-bytes = λ i k l m. below-next (λ (j : ℕ). AllZero (roomPast (roleAt s j .lens) (roleAt s j .bytes) k)) (s .nroles) (λ j q. z .role-bytes j k q m) (zero-room (roleAt s (s .nroles) .lens) (roleAt s (s .nroles) .bytes) k (new .room)) i l;
-          roles = λ i l. z .roles i (omega arith);
+          role-bytes = λ i k l m.
+              let r = roleAt s (s .nroles) in
+              below-next (λ (j : ℕ). AllZero (roomPast (roleAt s j .lens) (roleAt s j .bytes) k)) (s .nroles)
+              (λ j q. z .role-bytes j k q m) (zero-room (r .lens) (r .bytes) k (new .room)) i l;
+          roles = λ i l. z .roles i (λ h. l (omega arith));
           file-bytes = z .file-bytes;
           files = z .files;
         };
@@ -97,9 +114,16 @@ module _ (s : State) (w : WellFormed s) where
   pub one-more-file : s .nfiles < mostFiles → WellFormed (setNfiles s (s .nfiles + 1))
   one-more-file h =
       let z = w .unused-zero in
-      let new = z .files (s .nfiles) (le-refl (s .nfiles)) in
+      let new = z .files (s .nfiles) (λ l. omega arith) in
       record {
-        room = record { parents = w .room .parents; roles = w .room .roles; role-places = w .room .role-places; files = w .room .files; file-places = w .room .file-places; slots = w .room .slots };
+        room = record {
+          parents = w .room .parents;
+          roles = w .room .roles;
+          role-places = w .room .role-places;
+          files = w .room .files;
+          file-places = w .room .file-places;
+          slots = w .room .slots;
+        };
         tree = w .tree;
         role-count = w .role-count;
         file-count = omega arith;
@@ -113,21 +137,30 @@ module _ (s : State) (w : WellFormed s) where
           parents = z .parents;
           role-bytes = z .role-bytes;
           roles = z .roles;
-          file-bytes = λ i k l m. below-next (λ (j : ℕ). AllZero (roomPast (fileAt s j .lens) (fileAt s j .bytes) k)) (s .nfiles) (λ j q. z .file-bytes j k q m) (zero-room (fileAt s (s .nfiles) .lens) (fileAt s (s .nfiles) .bytes) k (new .room)) i l;
-          files = λ i l. z .files i (omega arith);
+          file-bytes = λ i k l m.
+              let f = fileAt s (s .nfiles) in
+              below-next (λ (j : ℕ). AllZero (roomPast (fileAt s j .lens) (fileAt s j .bytes) k)) (s .nfiles)
+              (λ j q. z .file-bytes j k q m) (zero-room (f .lens) (f .bytes) k (new .room)) i l;
+          files = λ i l. z .files i (λ h. l (omega arith));
         };
       }
 
   -- an expression that is in order is stored in a role
-  pub role-stored : (d : ℕ) → IsDepth (s .tree) d → (role : ℕ) → role < s .nroles → (k : ℕ) → k < rolePlaces → (x : List ℕ) → InOrder Privilege (s .tree .n) d x → WellFormed (withRole s role (putRole (roleAt s role) k x))
+  pub role-stored : (d : ℕ) → IsDepth (s .tree) d → (role : ℕ) → role < s .nroles → (k : ℕ) → k < rolePlaces → (x : List ℕ)
+      → InOrder Privilege (s .tree .n) d x → WellFormed (withRole s role (putRole (roleAt s role) k x))
   role-stored d deep role present k h x o =
       let all = well-formed-fine s d deep w in
-      let room = w .room .role-places role (omega (arith, w .role-count)) in
-      fine-well-formed (withRole s role (putRole (roleAt s role) k x)) d deep (record {
+      let few : role < mostRoles = omega (arith, w .role-count) in
+      let room = w .room .role-places role few in
+      let old = roleAt s role in
+      let was : ShelfFine false (s .tree .n) d (old .lens) (old .bytes) =
+      λ j l. all-used (all .roles) role j (role-used s present) few (omega (arith, room .lengths)) in
+      let fine = put-fine room k h x (o .0) false _ _ was o in
+      fine-well-formed (withRole s role (putRole old k x)) d deep (record {
         tree = all .tree;
         role-count = all .role-count;
         file-count = all .file-count;
-        roles = all-set (all .roles) role present (omega (arith, w .role-count)) (putRole (roleAt s role) k x) (put-places room k h x (o .0)) (put-fine room k h x (o .0) false _ _ (λ j l. all-used (all .roles) role j present (omega (arith, w .role-count)) (omega (arith, room .lengths))) o);
+        roles = all-set (all .roles) role (role-used s present) few (putRole old k x) (put-places room k h x (o .0)) fine;
         files = all .files;
         slots = all .slots;
       })

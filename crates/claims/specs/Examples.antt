@@ -1,5 +1,6 @@
--- Three examples, proved: sessions have to be told apart; the claim would be false with the mutable parts in it; and a granted bypass can break it. So the hypotheses of demand 3 are needed.
-use mathlib.Core.Path.{_≡_, refl, sym, _∙_, subst}
+-- Three examples, proved: sessions have to be told apart; the claim would be false with the mutable parts in it; and a granted bypass can break it.
+-- So the hypotheses of demand 3 are needed.
+use mathlib.Core.Path.{_≡_, refl, sym, ap, _∙_, subst}
 use mathlib.Core.List.{List, [], _∷_}
 use mathlib.Core.Logic.{inl, inr, ⊎-elim}
 use Prim.Native.Nat.{ℕ, _<_}
@@ -14,17 +15,20 @@ use Rattle.expression.specs.Bytes.{SET, MeetsT1}
 use Rattle.expression.specs.Laws.{meets-term}
 use Rattle.expression.specs.Scan.{bytes-some}
 use Rattle.expression.specs.Unique.{one-expression}
-use Rattle.policy.specs.State.{Free, By, read, write, changeProtection, holdOf, withHold, withEG, t1Of, eOf, t2Of, gOf}
+use Rattle.policy.specs.State.{IsMode, read, write, changeProtection, Free, By, roleIn, roleOf, holdOf, withHold, withEG, t1Of, eOf, t2Of, gOf}
 use Rattle.policy.specs.declared.State.{State}
 use Rattle.policy.specs.WellFormed.{WellFormed}
+use Rattle.policy.specs.Whole.{free-held}
 use Rattle.policy.specs.Kept.{by-kept, free-kept}
 use Rattle.policy.specs.Reads.{hold-here, eg-reads}
 use Rattle.rules.specs.Rules.{PassesRow, Passes, Mediates, Covers}
+use Rattle.gate.specs.Granted.{SessionGranted, RowGranted, BypassGranted}
 use Rattle.machine.specs.Machine.{begin, end, ask, bypass, Step, Event, Run, none, next}
 use Rattle.claims.specs.Trace.{Quiet, Move, PassesIndelible}
 use Rattle.claims.specs.Steps.{granted, done, begin-step, end-step, ask-step, bypass-step}
 use Rattle.claims.specs.MoveLaws.{move-confines}
-use Rattle.claims.specs.Sample.{root, sample, sample-well-formed, RoleParts, FileParts, sample-role0, sample-role1, sample-role2, sample-file0, sample-file1, sample-file2, sample-file3, sample-depth, sample-free, sample-counts, freed-again}
+use Rattle.claims.specs.Sample.{root, sample, sample-well-formed, sample-depth, sample-free, sample-counts, freed-again, RoleParts, FileParts}
+use Rattle.claims.specs.Sample.{sample-role0, sample-role1, sample-role2, sample-file0, sample-file1, sample-file2, sample-file3}
 
 -- who is in the sets of the sample: 0 in {0}, nobody in length 0
 nobody : (t : Tree) (u : ℕ) → SET t [] u → ⊥
@@ -92,14 +96,33 @@ held-is : (role : ℕ) → holdOf (heldBy role) 0 ≡ By role
 held-is role = hold-here sample (sample-well-formed .room) 0 (By role) (lit< tt)
 
 begun : (role : ℕ) → role < 3 → Step sample (begin 0 role) granted (heldBy role)
-begun role h = begin-step sample sample-well-formed 0 (lit< tt) role sample-free (rw (sample-counts .0) h)
+begun role h = begin-step sample 0 sample-well-formed (lit< tt) role sample-free (rw (sample-counts .0) h)
+
+-- the session of slot 0, and a row that it passes
+session : (role : ℕ) → role < 3 → SessionGranted (heldBy role) 0
+session role h = record { well-formed = held-well role h; known = lit< tt; taken = λ e. free-held (sym e ∙ held-is role) }
 
 module _ (role : ℕ) (h : role < 3) (file : ℕ) (g : file < 4) where
+  its : (P : ℕ → Type 0) → P role → P (roleOf (heldBy role) 0)
+  its P p = subst P (sym (ap roleIn (held-is role))) p
+
+  row : (mode judged : ℕ) → IsMode mode → Passes (heldBy role) role file judged → RowGranted (heldBy role) 0 file mode judged
+  row mode judged m p = record {
+    session = session role h;
+    present = rw (sample-counts .1) g;
+    is-mode = m;
+    passes = its (λ r. Passes (heldBy role) r file judged) p;
+  }
+
+  asked : (mode : ℕ) → IsMode mode → Passes (heldBy role) role file mode → Mediates (heldBy role) role file mode
+      → Step (heldBy role) (ask 0 file mode) granted (heldBy role)
+  asked mode m p q = ask-step (heldBy role) 0 file mode (record { row = row mode mode m p; mediates = its (λ r. Mediates (heldBy role) r file mode) q })
+
   asked-read : Passes (heldBy role) role file read → Mediates (heldBy role) role file read → Step (heldBy role) (ask 0 file read) granted (heldBy role)
-  asked-read = ask-step (heldBy role) (held-well role h) 0 (lit< tt) role (held-is role) file read (rw (sample-counts .1) g) (lit< tt)
+  asked-read = asked read (lit< tt)
 
   asked-write : Passes (heldBy role) role file write → Mediates (heldBy role) role file write → Step (heldBy role) (ask 0 file write) granted (heldBy role)
-  asked-write = ask-step (heldBy role) (held-well role h) 0 (lit< tt) role (held-is role) file write (rw (sample-counts .1) g) (lit< tt)
+  asked-write = asked write (lit< tt)
 
 -- who has nothing
 abbrev pub Passes-with-nothing : State → ℕ → Type 0
@@ -130,12 +153,17 @@ pub record OldSessionsReadIsNotTheNewOnes : Type 0 where
 
 two-sessions-run : Run sample twoSessions (heldBy 1)
 two-sessions-run =
+    let ended = withHold (heldBy 0) 0 Free in
+    let still = free-kept (heldBy 0) (held-well 0 (lit< tt)) 0 (lit< tt) in
+    let free = hold-here (heldBy 0) (held-well 0 (lit< tt) .room) 0 Free (lit< tt) in
+    let again = begin-step ended 0 still (lit< tt) 1 free (rw (sample-counts .0) (lit< tt)) in
+    let read-0 = reads-row 0 0 _ _ _ _ _ sample-role0 sample-file0 (e-row (sample .tree) _) in
+    let write-2 = writes-row 1 2 _ _ _ _ _ sample-role1 sample-file2 in
     next (begun 0 (lit< tt))
-    (next (asked-read 0 (lit< tt) 0 (lit< tt) (reads-row 0 0 _ _ _ _ _ sample-role0 sample-file0 (e-row (sample .tree) _)) (reads-mediated 0 0 _ _ _ _ _ sample-role0 sample-file0 (λ u x. x)))
-    (next (end-step (heldBy 0) (held-well 0 (lit< tt)) 0 (lit< tt) 0 (held-is 0))
-    (next (subst (Step (withHold (heldBy 0) 0 Free) (begin 0 1) granted) (freed-again 0 1)
-    (begin-step (withHold (heldBy 0) 0 Free) (free-kept (heldBy 0) (held-well 0 (lit< tt)) 0 (lit< tt)) 0 (lit< tt) 1 (hold-here (heldBy 0) (held-well 0 (lit< tt) .room) 0 Free (lit< tt)) (rw (sample-counts .0) (lit< tt))))
-    (next (asked-write 1 (lit< tt) 2 (lit< tt) (writes-row 1 2 _ _ _ _ _ sample-role1 sample-file2) (writes-mediated 1 2 _ _ _ _ _ sample-role1 sample-file2 (λ u x. x)))
+    (next (asked-read 0 (lit< tt) 0 (lit< tt) read-0 (reads-mediated 0 0 _ _ _ _ _ sample-role0 sample-file0 (λ u x. x)))
+    (next (end-step (heldBy 0) 0 (session 0 (lit< tt)))
+    (next (subst (Step ended (begin 0 1) granted) (freed-again 0 1) again)
+    (next (asked-write 1 (lit< tt) 2 (lit< tt) write-2 (writes-mediated 1 2 _ _ _ _ _ sample-role1 sample-file2 (λ u x. x)))
     none))))
 
 two-sessions-quiet : Quiet twoSessions
@@ -189,9 +217,11 @@ pub record MutablePartsWouldBreakIt : Type 0 where
 pub mutable-parts-have-no-say : MutablePartsWouldBreakIt
 mutable-parts-have-no-say = record {
   run =
+      let read-3 = reads-row 2 3 _ _ _ _ _ sample-role2 sample-file3 (t1-row (sample .tree) _) in
+      let write-2 = writes-row 2 2 _ _ _ _ _ sample-role2 sample-file2 in
       next (begun 2 (lit< tt))
-      (next (asked-read 2 (lit< tt) 3 (lit< tt) (reads-row 2 3 _ _ _ _ _ sample-role2 sample-file3 (t1-row (sample .tree) _)) (reads-mediated 2 3 _ _ _ _ _ sample-role2 sample-file3 (λ u x. x)))
-      (next (asked-write 2 (lit< tt) 2 (lit< tt) (writes-row 2 2 _ _ _ _ _ sample-role2 sample-file2) (writes-mediated 2 2 _ _ _ _ _ sample-role2 sample-file2 (λ u x. x)))
+      (next (asked-read 2 (lit< tt) 3 (lit< tt) read-3 (reads-mediated 2 3 _ _ _ _ _ sample-role2 sample-file3 (λ u x. x)))
+      (next (asked-write 2 (lit< tt) 2 (lit< tt) write-2 (writes-mediated 2 2 _ _ _ _ _ sample-role2 sample-file2 (λ u x. x)))
       none));
   quiet = ((λ g r. r), ((λ g r. r), ((λ g r. r), tt)));
   moved = read-then-write-moves 2 3 2 [];
@@ -201,7 +231,9 @@ mutable-parts-have-no-say = record {
   where
     unmet : MeetsT1 (sample .tree) empty root → ⊥
     unmet (inl q) = bytes-some (term (one 0)) q
-    unmet (inr (e, q, m)) = meets-term (sample .tree) empty (one 0) .0 (subst (Meets (sample .tree) empty) (one-expression e (term (one 0)) (sym q)) m) .2
+    unmet (inr (e, q, m)) =
+        let same = one-expression e (term (one 0)) (sym q) in
+        meets-term (sample .tree) empty (one 0) .0 (subst (Meets (sample .tree) empty) same m) .2
 
 -- ---- 3. A granted bypass can break it: content moved from file 0 to file 1, both with E = {0}; then file 1's E is emptied
 abbrev pub thenBypassed : List Event
@@ -219,21 +251,33 @@ pub record ABypassCanBreakIt : Type 0 where
 covered : Covers (heldBy 0) 0 1 read [] []
 covered = record {
   of-e = λ u. ⊎-elim (λ w. absurd (nobody (sample .tree) u (w .0))) (λ w. rw (sample-role0 .b) (rw (sample-file1 .e) at (w .0)));
-  of-g = λ u. ⊎-elim (λ w. absurd (nobody (sample .tree) u (w .0))) (λ w. absurd (nobody (sample .tree) u (rw (sample-file1 .g) at (w .0))));
+  of-g = λ u. ⊎-elim
+      (λ w. absurd (nobody (sample .tree) u (w .0)))
+      (λ w. absurd (nobody (sample .tree) u (rw (sample-file1 .g) at (w .0))));
 }
 
 none-over : InOrderOver Privilege (sample .tree) []
 none-over = (0, sample-depth, (lit≤ tt, inl refl))
+
+may-bypass : BypassGranted (heldBy 0) 0 1 read [] []
+may-bypass =
+    let changes = changes-row 0 1 _ _ _ _ _ sample-role0 sample-file1 in
+    record {
+      store = record { row = row 0 (lit< tt) 1 (lit< tt) read changeProtection (lit< tt) changes; first = none-over; second = none-over };
+      covers = its 0 (lit< tt) 1 (lit< tt) (λ r. Covers (heldBy 0) r 1 read [] []) covered;
+    }
 
 pub a-bypass-can-break-it : ABypassCanBreakIt
 a-bypass-can-break-it =
     let b = eg-reads (heldBy 0) (held-well 0 (lit< tt)) 1 (rw (sample-counts .1) (lit< tt)) read (lit< tt) [] [] (lit≤ tt) (lit≤ tt) in
     record {
       run =
+          let read-0 = reads-row 0 0 _ _ _ _ _ sample-role0 sample-file0 (e-row (sample .tree) _) in
+          let write-1 = writes-row 0 1 _ _ _ _ _ sample-role0 sample-file1 in
           next (begun 0 (lit< tt))
-          (next (asked-read 0 (lit< tt) 0 (lit< tt) (reads-row 0 0 _ _ _ _ _ sample-role0 sample-file0 (e-row (sample .tree) _)) (reads-mediated 0 0 _ _ _ _ _ sample-role0 sample-file0 (λ u x. x)))
-          (next (asked-write 0 (lit< tt) 1 (lit< tt) (writes-row 0 1 _ _ _ _ _ sample-role0 sample-file1) (writes-mediated 0 1 _ _ _ _ _ sample-role0 sample-file1 (λ u x. x)))
-          (next (bypass-step (heldBy 0) (held-well 0 (lit< tt)) 0 (lit< tt) 0 (held-is 0) 1 read (rw (sample-counts .1) (lit< tt)) (lit< tt) [] [] (changes-row 0 1 _ _ _ _ _ sample-role0 sample-file1) none-over none-over covered)
+          (next (asked-read 0 (lit< tt) 0 (lit< tt) read-0 (reads-mediated 0 0 _ _ _ _ _ sample-role0 sample-file0 (λ u x. x)))
+          (next (asked-write 0 (lit< tt) 1 (lit< tt) write-1 (writes-mediated 0 1 _ _ _ _ _ sample-role0 sample-file1 (λ u x. x)))
+          (next (bypass-step (heldBy 0) 0 1 read [] [] may-bypass)
           none)));
       moved = read-then-write-moves 0 0 1 _;
       last-passed = passes-empty afterBypass 1 (b .first) (b .second);

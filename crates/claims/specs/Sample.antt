@@ -9,19 +9,21 @@ use Rattle.tree.specs.Tree.{IsDepth}
 use Rattle.expression.specs.declared.Kind.{Kind}
 use Rattle.expression.specs.Expression.{one, term}
 use Rattle.expression.specs.Bytes.{InOrder}
-use Rattle.policy.specs.State.{Free, By, read, write, changeProtection, vPlusPlace, m1Place, bPlace, roleAt, freshState, setNroles, setNfiles, withRole, putRole, withT1T2, withEG, withHold, holdOf, vPlusOf, vMinusOf, m1Of, m2Of, bOf, t1Of, eOf, t2Of, gOf}
+use Rattle.policy.specs.State.{Free, By, read, write, changeProtection, vPlusPlace, m1Place, bPlace, roleAt, freshState, setNroles, setNfiles, withRole}
+use Rattle.policy.specs.State.{withT1T2, withEG, withHold, holdOf, vPlusOf, vMinusOf, m1Of, m2Of, bOf, t1Of, eOf, t2Of, gOf}
 use Rattle.policy.specs.declared.State.{State}
 use Rattle.shelf.specs.Shelf.{putBytes, padded}
 use Rattle.policy.specs.WellFormed.{WellFormed}
 use Rattle.policy.specs.Fresh.{root-depth, fresh-well-formed}
 use Rattle.policy.specs.Kept.{t1t2-kept, eg-kept}
-use Rattle.claims.specs.Builders.{one-more-role, one-more-file, role-stored}
+use Rattle.claims.specs.Builders.{putRole, one-more-role, one-more-file, role-stored}
 
 -- {0}, the root, as an expression
 abbrev pub root : List ℕ
 root = 1 ∷ 0 ∷ []
 
--- role 0 reads with {0}, mediates {0} and may bypass {0}; role 1 has nothing; role 2 reads with {0}. Files 0 and 1 have E = {0} in their Read row; file 2 has nothing; file 3 has T1 = {0} there
+-- role 0 reads with {0}, mediates {0} and may bypass {0}; role 1 has nothing; role 2 reads with {0}.
+-- Files 0 and 1 have E = {0} in their Read row; file 2 has nothing; file 3 has T1 = {0} there
 unfoldable pub withRoles : State
 withRoles = setNfiles (setNroles freshState 3) 4
 
@@ -136,28 +138,110 @@ pub record FileParts (s : State) (file : ℕ) (mutable indelible : List ℕ) : T
 
 pub sample-role0 : RoleParts sample 0 root root root
 unfolding withRoles role0 role0M1 role0B role2 file0 file1 sample putBytes padded
-sample-role0 = record { v-plus = refl; v-minus = refl; v-plus-write = refl; v-minus-write = refl; v-plus-change = refl; v-minus-change = refl; m1 = refl; m2 = refl; b = refl }
+sample-role0 = record {
+  v-plus = refl;
+  v-minus = refl;
+  v-plus-write = refl;
+  v-minus-write = refl;
+  v-plus-change = refl;
+  v-minus-change = refl;
+  m1 = refl;
+  m2 = refl;
+  b = refl;
+}
 
 pub sample-role1 : RoleParts sample 1 [] [] []
 unfolding withRoles role0 role0M1 role0B role2 file0 file1 sample putBytes padded
-sample-role1 = record { v-plus = refl; v-minus = refl; v-plus-write = refl; v-minus-write = refl; v-plus-change = refl; v-minus-change = refl; m1 = refl; m2 = refl; b = refl }
+sample-role1 = record {
+  v-plus = refl;
+  v-minus = refl;
+  v-plus-write = refl;
+  v-minus-write = refl;
+  v-plus-change = refl;
+  v-minus-change = refl;
+  m1 = refl;
+  m2 = refl;
+  b = refl;
+}
 
 pub sample-role2 : RoleParts sample 2 root [] []
 unfolding withRoles role0 role0M1 role0B role2 file0 file1 sample putBytes padded
-sample-role2 = record { v-plus = refl; v-minus = refl; v-plus-write = refl; v-minus-write = refl; v-plus-change = refl; v-minus-change = refl; m1 = refl; m2 = refl; b = refl }
+sample-role2 = record {
+  v-plus = refl;
+  v-minus = refl;
+  v-plus-write = refl;
+  v-minus-write = refl;
+  v-plus-change = refl;
+  v-minus-change = refl;
+  m1 = refl;
+  m2 = refl;
+  b = refl;
+}
 
 pub sample-file0 : FileParts sample 0 [] root
 unfolding withRoles role0 role0M1 role0B role2 file0 file1 sample putBytes padded
-sample-file0 = record { t1 = refl; e = refl; t2 = refl; g = refl; t1-write = refl; e-write = refl; t2-write = refl; g-write = refl; t1-change = refl; e-change = refl; t2-change = refl; g-change = refl }
+sample-file0 = record {
+  t1 = refl;
+  e = refl;
+  t2 = refl;
+  g = refl;
+  t1-write = refl;
+  e-write = refl;
+  t2-write = refl;
+  g-write = refl;
+  t1-change = refl;
+  e-change = refl;
+  t2-change = refl;
+  g-change = refl;
+}
 
 pub sample-file1 : FileParts sample 1 [] root
 unfolding withRoles role0 role0M1 role0B role2 file0 file1 sample putBytes padded
-sample-file1 = record { t1 = refl; e = refl; t2 = refl; g = refl; t1-write = refl; e-write = refl; t2-write = refl; g-write = refl; t1-change = refl; e-change = refl; t2-change = refl; g-change = refl }
+sample-file1 = record {
+  t1 = refl;
+  e = refl;
+  t2 = refl;
+  g = refl;
+  t1-write = refl;
+  e-write = refl;
+  t2-write = refl;
+  g-write = refl;
+  t1-change = refl;
+  e-change = refl;
+  t2-change = refl;
+  g-change = refl;
+}
 
 pub sample-file2 : FileParts sample 2 [] []
 unfolding withRoles role0 role0M1 role0B role2 file0 file1 sample putBytes padded
-sample-file2 = record { t1 = refl; e = refl; t2 = refl; g = refl; t1-write = refl; e-write = refl; t2-write = refl; g-write = refl; t1-change = refl; e-change = refl; t2-change = refl; g-change = refl }
+sample-file2 = record {
+  t1 = refl;
+  e = refl;
+  t2 = refl;
+  g = refl;
+  t1-write = refl;
+  e-write = refl;
+  t2-write = refl;
+  g-write = refl;
+  t1-change = refl;
+  e-change = refl;
+  t2-change = refl;
+  g-change = refl;
+}
 
 pub sample-file3 : FileParts sample 3 root []
 unfolding withRoles role0 role0M1 role0B role2 file0 file1 sample putBytes padded
-sample-file3 = record { t1 = refl; e = refl; t2 = refl; g = refl; t1-write = refl; e-write = refl; t2-write = refl; g-write = refl; t1-change = refl; e-change = refl; t2-change = refl; g-change = refl }
+sample-file3 = record {
+  t1 = refl;
+  e = refl;
+  t2 = refl;
+  g = refl;
+  t1-write = refl;
+  e-write = refl;
+  t2-write = refl;
+  g-write = refl;
+  t1-change = refl;
+  e-change = refl;
+  t2-change = refl;
+  g-change = refl;
+}

@@ -1,16 +1,15 @@
 -- What every step and every run keeps. Assumes nothing.
 use mathlib.Core.Path.{_≡_, refl, sym, ap, _∙_, subst}
 use mathlib.Core.List.{List, [], _∷_, _++_}
-use Prim.Native.Nat.{ℕ, _<_}
+use Prim.Native.Nat.{ℕ}
 use native.Mathlib.Decide.{ℕ-discrete}
-use native.Mathlib.Omega.{arith}
 use Rattle.answer.specs.declared.Answer.{Answer}
-use Rattle.answer.specs.Answers.{Granted}
-use Rattle.policy.specs.State.{Hold, Free, By, modeCount, holdOf, eOf, gOf, withHold, withT1T2}
+use Rattle.answer.specs.Answers.{Granted, Leaves}
 use Rattle.policy.specs.declared.State.{State}
+use Rattle.policy.specs.State.{IsMode, Hold, Free, By, holdOf, eOf, gOf, withHold, withT1T2}
+use Rattle.policy.specs.Whole.{free-held}
 use Rattle.policy.specs.Reads.{hold-there, change-keeps}
-use Rattle.gate.specs.Requests.{beginConditions, endConditions, changeConditions}
-use Rattle.answer.specs.Lists.{granted-all}
+use Rattle.gate.specs.Laws.{begin-granted, end-granted, change-granted}
 use Rattle.machine.specs.Machine.{Request, load, begin, end, ask, change, bypass, Step, Event, Run, none, next}
 use Rattle.claims.specs.Trace.{Resets, Quiet, NoEnd}
 
@@ -18,8 +17,8 @@ use Rattle.claims.specs.Trace.{Resets, Quiet, NoEnd}
 pub record Kept (s t : State) : Type 0 where
   pub tree : t .tree ≡ s .tree
   pub roles : t .roles ≡ s .roles
-  pub e : (file mode : ℕ) → mode < modeCount → eOf t file mode ≡ eOf s file mode
-  pub g : (file mode : ℕ) → mode < modeCount → gOf t file mode ≡ gOf s file mode
+  pub e : (file mode : ℕ) → IsMode mode → eOf t file mode ≡ eOf s file mode
+  pub g : (file mode : ℕ) → IsMode mode → gOf t file mode ≡ gOf s file mode
 
 pub kept-same : {s t : State} → t ≡ s → Kept s t
 kept-same {s} {t} q = subst (Kept s) (sym q) (record { tree = refl; roles = refl; e = λ f m h. refl; g = λ f m h. refl })
@@ -35,31 +34,28 @@ kept-then p q = record {
   g = λ f m h. q .g f m h ∙ p .g f m h;
 }
 
-pub free-by : {role : ℕ} → Free ≡ By role → ⊥
-free-by {role} e = let z : _≡_ {A = ℕ} 0 1 = cc in omega arith
-
 module _ {s t : State} (a : Answer) where
   -- what holds where a state is made and where it stays holds after any step
-  after : (P : State → Type 0) {made : State} → ((Granted a → t ≡ made) × ((Granted a → ⊥) → t ≡ s)) → (Granted a → P made) → P s → P t
+  after : (P : State → Type 0) {made : State} → Leaves a (λ u. u ≡ made) s t → (Granted a → P made) → P s → P t
   after P l m o = go (ℕ-discrete (a .number) 0)
     where
       go : Dec (Granted a) → P t
-      go (yes g) = subst P (sym (l .0 g)) (m g)
-      go (no n) = subst P (sym (l .1 n)) o
+      go (yes g) = subst P (sym (l .on-grant g)) (m g)
+      go (no n) = subst P (sym (l .on-refusal n)) o
 
   -- a step that is no granted load and no granted bypass keeps them
   pub step-keeps : (q : Request) → Step s q a t → (Granted a → Resets q → ⊥) → Kept s t
   step-keeps (load image) st quiet = kept-same (st .leaves .on-refusal (λ g. quiet g tt))
-  step-keeps (begin slot role) st quiet = after (Kept s) (st .leaves .on-grant, st .leaves .on-refusal) (λ g. hold-keeps s slot (By role)) (kept-same refl)
-  step-keeps (end slot) st quiet = after (Kept s) (st .leaves .on-grant, st .leaves .on-refusal) (λ g. hold-keeps s slot Free) (kept-same refl)
-  step-keeps (ask slot file mode) st quiet = kept-same (st .1)
-  step-keeps (change slot file mode x y) st quiet =
-      after (Kept s) (st .leaves .on-grant, st .leaves .on-refusal) (λ g. stored g) (kept-same refl)
+  step-keeps (begin slot role) st quiet = after (Kept s) (st .leaves) (λ g. hold-keeps s slot (By role)) (kept-same refl)
+  step-keeps (end slot) st quiet = after (Kept s) (st .leaves) (λ g. hold-keeps s slot Free) (kept-same refl)
+  step-keeps (ask slot file mode) st quiet = after (Kept s) (st .leaves) (λ g. kept-same refl) (kept-same refl)
+  step-keeps (change slot file mode x y) st quiet = after (Kept s) (st .leaves) (λ g. stored g) (kept-same refl)
     where
       stored : Granted a → Kept s (withT1T2 s file mode x y)
       stored g =
-          let w = granted-all (λ k. k ≡ 0) a (changeConditions s slot file mode x y) refl (st .decides) g in
-          let c = change-keeps s (w .0) file (w .1 .1 .1 .0) mode (w .1 .1 .1 .1 .0) x y (w .1 .1 .1 .1 .1 .1 .0 .2 .0) (w .1 .1 .1 .1 .1 .1 .1 .0 .2 .0) in
+          let w = change-granted s slot a file mode x y (st .decides) g in
+          let row = w .row in
+          let c = change-keeps s (row .session .well-formed) file (row .present) mode (row .is-mode) x y (w .first .2 .0) (w .second .2 .0) in
           record { tree = refl; roles = refl; e = λ i m h. c i m h .0; g = λ i m h. c i m h .1 }
   step-keeps (bypass slot file mode x y) st quiet = kept-same (st .leaves .on-refusal (λ g. quiet g tt))
 
@@ -68,35 +64,36 @@ run-keeps none q = kept-same refl
 run-keeps (next {e = e} st r) q = kept-then (step-keeps (e .answer) (e .request) st (q .0)) (run-keeps r (q .1))
 
 -- a session goes on: while it is not ended, its slot holds its role
-step-holds : (a : Answer) (s t : State) (q : Request) → Step s q a t → (Granted a → Resets q → ⊥) → (slot role : ℕ) → ((Granted a) → q ≡ end slot → ⊥) → holdOf s slot ≡ By role → holdOf t slot ≡ By role
-step-holds a s t (load image) st quiet slot role on h = ap (λ (x : State). holdOf x slot) (st .leaves .on-refusal (λ g. quiet g tt)) ∙ h
-step-holds a s t (begin other r) st quiet slot role on h =
-    after a (λ x. holdOf x slot ≡ By role) (st .leaves .on-grant, st .leaves .on-refusal) (λ g. go g (ℕ-discrete slot other)) h
-  where
-    go : Granted a → Dec (slot ≡ other) → holdOf (withHold s other (By r)) slot ≡ By role
-    go g (yes q) =
-        let w = granted-all (λ k. k ≡ 0) a (beginConditions s other r) refl (st .decides) g in
-        let f : holdOf s slot ≡ Free = rw q (w .1 .1 .0) in
-        absurd (free-by (sym f ∙ h))
-    go g (no n) =
-        let w = granted-all (λ k. k ≡ 0) a (beginConditions s other r) refl (st .decides) g in
-        hold-there s (w .0 .room) other (By r) slot n ∙ h
-step-holds a s t (end other) st quiet slot role on h =
-    after a (λ x. holdOf x slot ≡ By role) (st .leaves .on-grant, st .leaves .on-refusal) (λ g. go g (ℕ-discrete slot other)) h
-  where
-    go : Granted a → Dec (slot ≡ other) → holdOf (withHold s other Free) slot ≡ By role
-    go g (yes q) = absurd (on g (ap end (sym q)))
-    go g (no n) =
-        let w = granted-all (λ k. k ≡ 0) a (endConditions s other) refl (st .decides) g in
-        hold-there s (w .0 .room) other Free slot n ∙ h
-step-holds a s t (ask x file mode) st quiet slot role on h = ap (λ (x : State). holdOf x slot) (st .1) ∙ h
-step-holds a s t (change x file mode p q) st quiet slot role on h = after a (λ x. holdOf x slot ≡ By role) (st .leaves .on-grant, st .leaves .on-refusal) (λ g. h) h
-step-holds a s t (bypass x file mode p q) st quiet slot role on h = after a (λ x. holdOf x slot ≡ By role) (st .leaves .on-grant, st .leaves .on-refusal) (λ g. h) h
+module _ (a : Answer) (s t : State) (slot role : ℕ) where
+  step-holds : (q : Request) → Step s q a t → (Granted a → Resets q → ⊥) → (Granted a → q ≡ end slot → ⊥) → holdOf s slot ≡ By role → holdOf t slot ≡ By role
+  step-holds (load image) st quiet on h = ap (λ (x : State). holdOf x slot) (st .leaves .on-refusal (λ g. quiet g tt)) ∙ h
+  step-holds (begin other r) st quiet on h = after a (λ x. holdOf x slot ≡ By role) (st .leaves) (λ g. go g (ℕ-discrete slot other)) h
+    where
+      go : Granted a → Dec (slot ≡ other) → holdOf (withHold s other (By r)) slot ≡ By role
+      go g (yes q) =
+          let w = begin-granted s other a r (st .decides) g in
+          let f : holdOf s slot ≡ Free = rw q (w .was-free) in
+          absurd (free-held (sym f ∙ h))
+      go g (no n) =
+          let w = begin-granted s other a r (st .decides) g in
+          hold-there s (w .well-formed .room) other (By r) slot n ∙ h
+  step-holds (end other) st quiet on h = after a (λ x. holdOf x slot ≡ By role) (st .leaves) (λ g. go g (ℕ-discrete slot other)) h
+    where
+      go : Granted a → Dec (slot ≡ other) → holdOf (withHold s other Free) slot ≡ By role
+      go g (yes q) = absurd (on g (ap end (sym q)))
+      go g (no n) =
+          let w = end-granted s other a (st .decides) g in
+          hold-there s (w .well-formed .room) other Free slot n ∙ h
+  step-holds (ask x file mode) st quiet on h = after a (λ x. holdOf x slot ≡ By role) (st .leaves) (λ g. h) h
+  step-holds (change x file mode p q) st quiet on h = after a (λ x. holdOf x slot ≡ By role) (st .leaves) (λ g. h) h
+  step-holds (bypass x file mode p q) st quiet on h = after a (λ x. holdOf x slot ≡ By role) (st .leaves) (λ g. h) h
 
-pub run-holds : {s t : State} {es : List Event} → Run s es t → Quiet es → (slot role : ℕ) → NoEnd slot es → holdOf s slot ≡ By role → holdOf t slot ≡ By role
+pub run-holds : {s t : State} {es : List Event} → Run s es t → Quiet es → (slot role : ℕ) → NoEnd slot es → holdOf s slot ≡ By role
+    → holdOf t slot ≡ By role
 run-holds none q slot role on h = h
 run-holds (next {e = e} st r) q slot role on h =
-    run-holds r (q .1) slot role (on .1) (step-holds (e .answer) _ _ (e .request) st (q .0) slot role (λ g w. on .0 (record { was = w; granted = g })) h)
+    let held = step-holds (e .answer) _ _ slot role (e .request) st (q .0) (λ g w. on .0 (record { was = w; granted = g })) h in
+    run-holds r (q .1) slot role (on .1) held
 
 -- a run of two parts is two runs
 pub record Split (s : State) (xs ys : List Event) (t : State) : Type 0 where
