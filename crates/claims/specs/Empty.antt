@@ -4,13 +4,12 @@ use mathlib.Core.Path.{_≡_, refl, sym, ap, _∙_}
 use native.Mathlib.Nat.{not-suc-le-zero}
 use lib.Dec.{lit<}
 use Rattle.answer.specs.declared.Answer.{Answer}
-use Rattle.answer.specs.Answers.{Granted}
+use Rattle.answer.specs.Answers.{Granted, AllHold}
 use Rattle.policy.specs.State.{By, freshState, holdOf}
 use Rattle.policy.specs.declared.State.{State}
 use Rattle.policy.specs.Reads.{hold-here}
 use Rattle.policy.specs.Whole.{free-held}
 use Rattle.gate.specs.Requests.{beginConditions}
-use Rattle.answer.specs.Answers.{AllHold}
 use Rattle.answer.specs.Lists.{all-granted}
 use Rattle.gate.specs.Laws.{begin-granted}
 use Rattle.machine.specs.Machine.{Request, begin, Step}

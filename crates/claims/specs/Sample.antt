@@ -9,8 +9,7 @@ use Rattle.tree.specs.Tree.{IsDepth}
 use Rattle.expression.specs.declared.Kind.{Kind}
 use Rattle.expression.specs.Expression.{one, term}
 use Rattle.expression.specs.Bytes.{InOrder}
-use Rattle.policy.specs.State.{Free, By, read, write, changeProtection, vPlusPlace, m1Place, bPlace, roleAt, freshState, setNroles, setNfiles, withRole}
-use Rattle.policy.specs.State.{withT1T2, withEG, withHold, holdOf, vPlusOf, vMinusOf, m1Of, m2Of, bOf, t1Of, eOf, t2Of, gOf}
+use Rattle.policy.specs.State.{Free, By, read, write, changeProtection, vPlusPlace, m1Place, bPlace, roleAt, freshState, setNroles, setNfiles, withRole, withT1T2, withEG, withHold, holdOf, vPlusOf, vMinusOf, m1Of, m2Of, bOf, t1Of, eOf, t2Of, gOf}
 use Rattle.policy.specs.declared.State.{State}
 use Rattle.shelf.specs.Shelf.{putBytes, padded}
 use Rattle.policy.specs.WellFormed.{WellFormed}

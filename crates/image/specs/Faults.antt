@@ -15,7 +15,8 @@ use Rattle.expression.specs.Bytes.{longest, Right}
 use Rattle.policy.specs.State.{mostRoles, mostFiles, modeCount}
 use Rattle.image.specs.declared.Met.{Met}
 use Rattle.image.specs.declared.Met.the-variants.{Read, Refused}
-use Rattle.image.specs.Image.{each, markS, markP, markT, version1, lowFirst}
+use Rattle.image.specs.Image.{each, markS, markP, markT, version1}
+use Rattle.fields.specs.Parts.{lowFirst}
 
 infixr 30 _then_
 -- a stretch of an image: of the image's bytes, from a place on, what comes of it. It is read, and the next begins at a place; or it is refused, with a number and a place, measured from the image's start

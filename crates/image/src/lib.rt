@@ -34,7 +34,7 @@ ghost use Rattle.tree.specs.Tree.{InRange};
 ghost use Rattle.expression.specs.Bytes.{longest};
 ghost use Rattle.policy.specs.State.{mostRoles, mostFiles};
 ghost use Rattle.shelf.specs.Fine.{ShelfFine};
-ghost use Rattle.image.specs.Image.{lowFirst};
+ghost use Rattle.fields.specs.Parts.{lowFirst};
 ghost use Rattle.image.specs.Faults.{End, Version, AllThere, Cut, Expression, Meets, headFields};
 ghost use Rattle.image.specs.Load.{Loads, Gives};
 ghost use Rattle.image.specs.Reading.{Follows, ByteRead, TreeRead, PartRead, ShelfRead, RoleRead, FileRead, RolesRead, FilesRead, ImageRead};

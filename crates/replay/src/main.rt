@@ -137,7 +137,7 @@ fn main() {
         io::write_all(STDOUT_FILENO, b"cut\n");
         return;
     }
-    let stated = image::low_first(two[0], two[1]);
+    let stated = fields::low_first(two[0], two[1]);
     let mut bytes = io::large_buffer();
     let have = io::read_full(STDIN_FILENO, &mut bytes[..stated]);
     let loaded = image::load(State::fresh(), &bytes[..have]);

@@ -11,7 +11,7 @@ use Rattle.policy.specs.declared.State.{State}
 use Rattle.policy.specs.State.{freshState}
 use Rattle.image.specs.Image.{expressionBytes}
 use Rattle.image.specs.Load.{Loads}
-use Rattle.image.specs.Inside.{load-inside}
+use Rattle.image.specs.Laws.{load-inside}
 use Rattle.gate.specs.Small.{Small, begin-small, end-small, ask-small, change-small, bypass-small}
 use Rattle.machine.specs.Machine.{Request, Step}
 use Rattle.lines.specs.Lines.{Line}
@@ -26,7 +26,7 @@ small-line j w x = omega (arith, line-length 1 j (w .0) (w .1) x)
 record-line : (s t : State) {bytes rest l : List ℕ} {q : Request} {a : Answer} → Reads bytes q rest → Step s q a t → Line a [] l → length l + 3 * length rest ≤ 3 * length bytes
 record-line s t {a = a} (a-begin {slot} {role}) w x = omega (arith, small-line 0 (begin-small s slot role a (w .decides)) x)
 record-line s t {a = a} (an-end {slot}) w x = omega (arith, small-line 0 (end-small s slot a (w .decides)) x)
-record-line s t {a = a} (an-ask {slot} {file} {mode}) w x = omega (arith, small-line 0 (ask-small s slot file mode a (w .0)) x)
+record-line s t {a = a} (an-ask {slot} {file} {mode}) w x = omega (arith, small-line 0 (ask-small s slot file mode a (w .decides)) x)
 record-line s t {rest = rest} {a = a} (a-change {slot} {file} {mode} {x} {y}) w l =
     omega (arith, small-line 2 (change-small s slot file mode x y a (w .decides)) l, length-append x (expressionBytes y ++ rest), length-append y rest)
 record-line s t {rest = rest} {a = a} (a-bypass {slot} {file} {mode} {x} {y}) w l =

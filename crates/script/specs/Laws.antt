@@ -7,7 +7,7 @@ use Prim.Native.Nat.{ℕ, _+_, _≤_}
 use native.Mathlib.Decide.{decLe}
 use native.Mathlib.Omega.{arith}
 use lib.Dec.{eqb}
-use lib.ListN.{length, getD, take, drop}
+use lib.ListN.{length, getD, take, drop, length-drop}
 use lib.Seq.{take-append-seam, drop-append-seam, drop-append-add, drop-drop}
 use Rattle.answer.specs.declared.Answer.{Answer}
 use Rattle.policy.specs.declared.State.{State}
@@ -18,6 +18,11 @@ use Rattle.machine.specs.Laws.{Same, one-step}
 use Rattle.lines.specs.Lines.{Line}
 use Rattle.lines.specs.Laws.{one-line}
 use Rattle.script.specs.Script.{Reads, a-begin, an-end, an-ask, a-change, a-bypass, Plays, ended, called, cut, Prints, stated, imageIn, over, Replays}
+use Rattle.gate.specs.Effects.{after}
+use Rattle.script.specs.declared.Played.{Played}
+use Rattle.script.specs.declared.Next.{Next}
+use Rattle.script.specs.declared.Next.the-variants.{Ended, Cut, Whole}
+use Rattle.script.specs.Playing.{NoCall, NextIs, PlayedIs}
 use Rattle.script.specs.Records.{secondAt, endAt, firstOf, secondOf, storeIn, second-length}
 
 -- ---- one record
@@ -78,8 +83,8 @@ none-in a-change e = let z = ap length e in omega arith
 none-in a-bypass e = let z = ap length e in omega arith
 
 -- ---- one output
-one-step : (s t u : State) (q p : Request) (a b : Answer) → Step s q a t → Step s p b u → q ≡ p → Same a b t u
-one-step s t u q p a b x y e = one-step s q a b t u x (subst (λ (o : Request). Step s o b u) (sym e) y)
+one-call : (s t u : State) (q p : Request) (a b : Answer) → Step s q a t → Step s p b u → q ≡ p → Same a b t u
+one-call s t u q p a b x y e = one-step s q a b t u x (subst (λ (o : Request). Step s o b u) (sym e) y)
 
 same-line : {a b : Answer} {l m : List ℕ} → Line a [] l → Line b [] m → a ≡ b → l ≡ m
 same-line {m = m} x y e = one-line x (subst (λ (o : Answer). Line o [] m) (sym e) y)
@@ -91,7 +96,7 @@ one-play ended (cut n none) = absurd (n refl)
 one-play (called r w l p) ended = absurd (none-in r refl)
 one-play {s} (called {t = t} {rest = left} {q = o} {a = a} r w l p) (called {t = t₂} {printed = z} {q = o₂} {a = a₂} r₂ w₂ l₂ p₂) =
     let e = one-record r r₂ in
-    let d = one-step s t t₂ o o₂ a a₂ w w₂ (e .0) in
+    let d = one-call s t t₂ o o₂ a a₂ w w₂ (e .0) in
     ap₂ _++_ (same-line l l₂ (d .answer)) (one-play p (subst (λ (u : State). Plays u left z) (sym (d .state)) (subst (λ (u : List ℕ). Plays t₂ u z) (sym (e .1)) p₂)))
 one-play (called r w l p) (cut n none) = absurd (none _ _ r)
 one-play (cut n none) ended = absurd (n refl)
@@ -121,3 +126,32 @@ one-replay {before = before} {r = r} {s = s} p q =
     go : length (p .printed) ≡ length (q .printed) → Dec (length (p .printed) ≤ length before) → r ≡ s
     go l (yes h) = p .filled .fits h ∙ l ∙ sym (q .filled .fits (omega arith))
     go l (no n) = p .filled .full (omega arith) ∙ sym (q .filled .full (omega arith))
+
+-- ---- the next record: what stands there is one, and so are the answer and the state after it
+same-cut : (bs : List ℕ) (m n : ℕ) → drop m bs ≡ drop n bs → m ≤ length bs → n ≤ length bs → m ≡ n
+same-cut bs m n e h l = omega (arith, ap length e, length-drop m bs, length-drop n bs)
+
+module _ (s : State) (bs : List ℕ) (a b : Answer) (t u : State) where
+  no-call : NoCall s a t → NoCall s b u → Same a b t u
+  no-call p q = record {
+    answer = ap₂ (λ (n k : ℕ). record { number = n; place = k }) (p .answer .number ∙ sym (q .answer .number)) (p .answer .place ∙ sym (q .answer .place));
+    state = p .state ∙ sym (q .state);
+  }
+
+  pub one-next : (x y : Next) → NextIs s bs a t x → NextIs s bs b u y → (x ≡ y) × Same a b t u
+  one-next Ended Ended p q = (refl, no-call (p .1) (q .1))
+  one-next Ended Cut p q = absurd (q .0 (p .0))
+  one-next Ended (Whole n) p q = absurd (none-in (q .1) (p .0))
+  one-next Cut Ended p q = absurd (p .0 (q .0))
+  one-next Cut Cut p q = (refl, no-call (p .2) (q .2))
+  one-next Cut (Whole n) p q = absurd (p .1 _ _ (q .1))
+  one-next (Whole n) Ended p q = absurd (none-in (p .1) (q .0))
+  one-next (Whole n) Cut p q = absurd (q .1 _ _ (p .1))
+  one-next (Whole m) (Whole n) p q =
+      let e = one-record (p .1) (q .1) in
+      (ap Whole (same-cut bs m n (e .1) (p .4) (q .4)), one-call s t u (p .0) (q .0) a b (p .2) (q .2) (e .0))
+
+-- so a record that was played leaves one answer and one state. (Which file an effect names is its own affair, where it alters none)
+pub one-played : (s : State) (bs : List ℕ) (x y : Played) → PlayedIs s bs x → PlayedIs s bs y
+    → (x .next ≡ y .next) × Same (x .effect .answer) (y .effect .answer) (after s (x .effect)) (after s (y .effect))
+one-played s bs x y p q = one-next s bs _ _ _ _ (x .next) (y .next) (p .is) (q .is)

@@ -11,11 +11,14 @@ use Rattle.script.specs.declared.Played.{Played}
 use Rattle.script.specs.declared.Next.{Next}
 use Rattle.script.specs.declared.Next.the-variants.{Ended, Cut, Whole}
 use Rattle.script.specs.Records.{NoRecord, secondAt, endAt, firstOf, secondOf, Stored}
-use Rattle.script.specs.Playing.{Bounded, NextIs, bytesOf, PlayedIs}
+use Rattle.script.specs.Playing.{Bounded, NoCall, NextIs, bytesOf, PlayedIs}
 
-module _ (s : State) (bs : List ℕ) (r : Played) (u : Tells s (λ o. o .state ≡ s) (r .effect)) where
+module _ (s : State) (bs : List ℕ) (r : Played) (u : Tells s (λ o. NoCall s (o .answer) (o .state)) (r .effect)) where
   pub says-cut : r .next ≡ Cut → 0 < length bs → NoRecord bs → PlayedIs s bs r
-  says-cut e h none = record { within = u .within; is = subst (NextIs s bs _ _) (sym e) ((λ z. let w = ap length z in omega arith), none, u .is) }
+  says-cut e h none = record {
+    within = u .within;
+    is = subst (NextIs s bs _ _) (sym e) ((λ z. let w = ap length z in omega arith), none, u .is);
+  }
 
   pub says-ended : r .next ≡ Ended → bs ≡ [] → PlayedIs s bs r
   says-ended e z = record { within = u .within; is = subst (NextIs s bs _ _) (sym e) (z, u .is) }

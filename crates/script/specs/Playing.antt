@@ -5,6 +5,8 @@ use mathlib.Core.List.{List, [], _++_}
 use Prim.Native.Nat.{ℕ, _<_, _≤_}
 use lib.ListN.{length, drop}
 use Rattle.answer.specs.declared.Answer.{Answer}
+use Rattle.answer.specs.Numbers.{done}
+use Rattle.answer.specs.Answers.{Is}
 use Rattle.policy.specs.declared.State.{State}
 use Rattle.machine.specs.Machine.{Request, Step}
 use Rattle.lines.specs.Lines.{Line}
@@ -23,10 +25,16 @@ pub record Bounded (bs : List ℕ) (whole : Bool) (mid end : ℕ) : Type 0 where
   pub end-is : whole ≡ true → end ≡ endAt bs
   pub not-stored : whole ≡ false → Stored bs → ⊥
 
--- what comes of the next record in the state s, with the answer a and the state t: the input has ended; no record stands there; or one of n bytes does, and this is what its call gives
+-- no call is made: 0 stands for the answer, and the state stays
+pub record NoCall (s : State) (a : Answer) (t : State) : Type 0 where
+  pub answer : Is a done 0
+  pub state : t ≡ s
+
+-- what comes of the next record in the state s, with the answer a and the state t: the input has ended; no record stands there;
+-- or one of n bytes does, and this is what its call gives
 abbrev pub NextIs : State → List ℕ → Answer → State → Next → Type 0
-NextIs s bs a t Ended = (bs ≡ []) × (t ≡ s)
-NextIs s bs a t Cut = (bs ≡ [] → ⊥) × NoRecord bs × (t ≡ s)
+NextIs s bs a t Ended = (bs ≡ []) × NoCall s a t
+NextIs s bs a t Cut = (bs ≡ [] → ⊥) × NoRecord bs × NoCall s a t
 NextIs s bs a t (Whole n) = (q : Request) × Reads bs q (drop n bs) × Step s q a t × (0 < n) × (n ≤ length bs)
 
 -- how many bytes the next record has

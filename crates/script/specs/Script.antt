@@ -7,7 +7,8 @@ use lib.ListN.{length, getD, take, drop}
 use Rattle.answer.specs.declared.Answer.{Answer}
 use Rattle.policy.specs.declared.State.{State}
 use Rattle.policy.specs.State.{freshState}
-use Rattle.image.specs.Image.{lowFirst, expressionBytes}
+use Rattle.fields.specs.Parts.{lowFirst}
+use Rattle.image.specs.Image.{expressionBytes}
 use Rattle.machine.specs.Machine.{Request, load, begin, end, ask, change, bypass, Step}
 use Rattle.lines.specs.Lines.{Line}
 

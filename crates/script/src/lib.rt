@@ -11,7 +11,7 @@ ghost use Rattle.gate.specs.Effects.{Tells};
 ghost use Rattle.machine.specs.Machine.{Step};
 ghost use Rattle.script.specs.Script.{Replays};
 ghost use Rattle.script.specs.Records.{storeOf};
-ghost use Rattle.script.specs.Playing.{Bounded, PlayedIs, Puts, PutsLine, ToldIs, PlayedOn};
+ghost use Rattle.script.specs.Playing.{Bounded, NoCall, PlayedIs, Puts, PutsLine, ToldIs, PlayedOn};
 
 // The codes of the records.
 pub const BEGIN: u8 = 1;
@@ -84,15 +84,15 @@ fn bounds_in(rest: &[u8]) -> Bounds
     }
 }
 
-// No call is made: nothing changes.
+// No call is made: 0 stands for the answer, and nothing changes.
 fn uncalled(next: Next, s: State) -> Played
-    ensures { λ r. ⌜ (r .next ≡ next) × Tells s (λ o. o .state ≡ s) (r .effect) ⌝ }
+    ensures { λ r. ⌜ (r .next ≡ next) × Tells s (λ o. NoCall s (o .answer) (o .state)) (r .effect) ⌝ }
 {
     let slots = s.slots;
     let files = s.files;
     let file = files[0];
     let effect = Effect {
-        answer: Answer::of(0),
+        answer: Answer::of(answer::DONE),
         slots,
         at: 0,
         file,
@@ -110,7 +110,7 @@ fn play_begin(s: State, rest: &[u8]) -> Played
     }
     Played {
         next: Next::Whole(3),
-        effect: gate::begin_effect(s, rest[1], rest[2]),
+        effect: gate::begin(s, rest[1], rest[2]),
     }
 }
 
@@ -124,7 +124,7 @@ fn play_end(s: State, rest: &[u8]) -> Played
     }
     Played {
         next: Next::Whole(2),
-        effect: gate::end_effect(s, rest[1]),
+        effect: gate::end(s, rest[1]),
     }
 }
 
@@ -138,7 +138,7 @@ fn play_ask(s: State, rest: &[u8]) -> Played
     }
     Played {
         next: Next::Whole(4),
-        effect: gate::ask_effect(s, rest[1], rest[2], rest[3]),
+        effect: gate::ask(s, rest[1], rest[2], rest[3]),
     }
 }
 
@@ -147,9 +147,9 @@ fn store(s: State, code: u8, slot: u8, file: u8, mode: u8, x: &[u8], y: &[u8]) -
     ensures { λ r. ⌜ Tells s (λ o. Step s (storeOf code slot file mode (now (x .entry)) (now (y .entry))) (o .answer) (o .state)) r ⌝ }
 {
     if code == CHANGE {
-        return gate::change_effect(s, slot, file, mode, x, y);
+        return gate::change(s, slot, file, mode, x, y);
     }
-    gate::bypass_effect(s, slot, file, mode, x, y)
+    gate::bypass(s, slot, file, mode, x, y)
 }
 
 // 04 or 05 slot file mode, length byte and bytes, twice.
@@ -302,7 +302,7 @@ pub fn run(input: &[u8], out: &mut [u8]) -> usize
     if input.len() < 2 {
         return put_all(out, 0, b"cut\n");
     }
-    let stated = image::low_first(input[0], input[1]);
+    let stated = fields::low_first(input[0], input[1]);
     let have = fewer(stated, input.len() - 2);
     let end = 2 + have;
     let loaded = image::load(State::fresh(), &input[2..end]);

@@ -3,6 +3,7 @@ use crate::output::write;
 use crate::output::write_answer;
 use crate::output::write_number;
 use answer::Answer;
+use gate::Effect;
 use policy::State;
 
 pub(crate) fn load(name: &[u8], s: State, image: &[u8]) -> State {
@@ -11,20 +12,32 @@ pub(crate) fn load(name: &[u8], s: State, image: &[u8]) -> State {
     loaded.state
 }
 
+// The state after a request: what it may have altered is stored, as every caller does.
+pub(crate) fn after(mut s: State, effect: Effect) -> State {
+    let slots = effect.slots;
+    let at = effect.at;
+    let file = effect.file;
+    s.slots = slots;
+    if at < policy::FILES {
+        s.files[at] = file;
+    }
+    s
+}
+
 pub(crate) fn begin(name: &[u8], s: State, slot: u8, role: u8) -> State {
-    let outcome = gate::begin(s, slot, role);
-    write_answer(name, outcome.answer);
-    outcome.state
+    let effect = gate::begin(s, slot, role);
+    write_answer(name, effect.answer);
+    after(s, effect)
 }
 
 pub(crate) fn end(name: &[u8], s: State, slot: u8) -> State {
-    let outcome = gate::end(s, slot);
-    write_answer(name, outcome.answer);
-    outcome.state
+    let effect = gate::end(s, slot);
+    write_answer(name, effect.answer);
+    after(s, effect)
 }
 
 pub(crate) fn ask(name: &[u8], s: State, slot: u8, file: u8, mode: u8) {
-    write_answer(name, gate::ask(s, slot, file, mode));
+    write_answer(name, gate::ask(s, slot, file, mode).answer);
 }
 
 pub(crate) fn change(
@@ -36,9 +49,9 @@ pub(crate) fn change(
     t1: &[u8],
     t2: &[u8],
 ) -> State {
-    let outcome = gate::change(s, slot, file, mode, t1, t2);
-    write_answer(name, outcome.answer);
-    outcome.state
+    let effect = gate::change(s, slot, file, mode, t1, t2);
+    write_answer(name, effect.answer);
+    after(s, effect)
 }
 
 pub(crate) fn bypass(
@@ -50,9 +63,9 @@ pub(crate) fn bypass(
     e: &[u8],
     g: &[u8],
 ) -> State {
-    let outcome = gate::bypass(s, slot, file, mode, e, g);
-    write_answer(name, outcome.answer);
-    outcome.state
+    let effect = gate::bypass(s, slot, file, mode, e, g);
+    write_answer(name, effect.answer);
+    after(s, effect)
 }
 
 fn number_of(answer: Answer) {
@@ -67,13 +80,13 @@ pub(crate) fn five(name: &[u8], s: State) {
     write(b":");
     number_of(gate::begin(s, 1, 0).answer);
     number_of(gate::end(s, 0).answer);
-    number_of(gate::ask(s, 0, 0, 4));
+    number_of(gate::ask(s, 0, 0, 4).answer);
     number_of(gate::change(s, 0, 0, 4, &none, &none).answer);
     number_of(gate::bypass(s, 0, 0, 4, &none, &none).answer);
     write(b";");
     number_of(gate::begin(s, 16, 255).answer);
     number_of(gate::end(s, 16).answer);
-    number_of(gate::ask(s, 16, 255, 255));
+    number_of(gate::ask(s, 16, 255, 255).answer);
     number_of(gate::change(s, 255, 255, 255, &wrong, &wrong).answer);
     number_of(gate::bypass(s, 255, 255, 255, &wrong, &wrong).answer);
     write(b"\n");

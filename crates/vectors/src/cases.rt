@@ -5,7 +5,7 @@ use crate::output::write_answer;
 use crate::policies;
 use answer::Answer;
 use expression::Kind;
-use expression::Mutable;
+use order::Mutable;
 use policy::State;
 ghost use Prim.Native.Nat.{_≤_, _<_};
 ghost use lib.ListN.{length};
@@ -48,7 +48,7 @@ const ROLE: u32 = 0x726f6c;
 
 const FILE: u32 = 0x66696c;
 
-const SECURONS: u32 = 0x736563;
+const ROOM: u32 = 0x736563;
 
 const PARENT: u32 = 0x706172;
 
@@ -244,7 +244,7 @@ fn altered(s: State, key: u32, args: &[u8]) -> State {
     if key == FILE {
         return policies::file(s, i, k, arg(args, 2), rest(args, 3));
     }
-    if key == SECURONS {
+    if key == ROOM {
         return policies::securons(s, i);
     }
     if key == PARENT {

@@ -4,19 +4,18 @@ use crate::output::write_answer;
 use crate::output::write_number;
 use answer::Answer;
 use answer::EXPRESSION_WRONG;
-use expression::Checked;
-use expression::Judged;
 use expression::Kind;
-use expression::Mutable;
+use order::Checked;
+use order::Judged;
+use order::Mutable;
 use securon::Level;
-use securon::SECURONS;
+use securon::ROOM;
 use securon::Securon;
 use securon::SecuronSet;
-use tree::Shape;
 use tree::Tree;
 
 fn tree() -> Tree {
-    let mut parent = [0u8; SECURONS];
+    let mut parent = [0u8; ROOM];
     parent[3] = 1;
     parent[4] = 1;
     parent[5] = 2;
@@ -26,7 +25,7 @@ fn tree() -> Tree {
 
 // Whether bytes are in order: 0 0, or 6 and the place.
 pub(crate) fn check(name: &[u8], kind: Kind, b: &[u8]) {
-    match expression::check(b, kind, 8, Level(2)) {
+    match order::check(b, kind, 8, Level(2)) {
         Checked::Fine => write_answer(name, Answer::of(answer::DONE)),
         Checked::Wrong(k) => write_answer(name, Answer::at(EXPRESSION_WRONG, k)),
     }
@@ -36,7 +35,7 @@ pub(crate) fn check(name: &[u8], kind: Kind, b: &[u8]) {
 fn write_set(name: &[u8], set: SecuronSet) {
     write(name);
     write(b":");
-    for k in 0..SECURONS {
+    for k in 0..ROOM {
         if set.has[k] {
             write_number(k);
         }
@@ -59,8 +58,8 @@ fn set_with(members: &[u8]) -> SecuronSet {
 // SET of a privilege: its members, or 6 and the place.
 pub(crate) fn set_of(name: &[u8], b: &[u8]) {
     let t = tree();
-    if let Shape::Grown = t.shape() {
-        let named = expression::name_set(t, b);
+    if t.grown() {
+        let named = order::name_set(t, b);
         let checked = named.checked;
         match checked {
             Checked::Fine => write_set(name, named.set),
@@ -72,8 +71,8 @@ pub(crate) fn set_of(name: &[u8], b: &[u8]) {
 // Whether a held set meets a protection: met, not met, or 6 and the place.
 pub(crate) fn meets(name: &[u8], part: Mutable, held: &[u8], b: &[u8]) {
     let t = tree();
-    if let Shape::Grown = t.shape() {
-        match expression::judge(t, part, set_with(held), b) {
+    if t.grown() {
+        match order::judge(t, part, set_with(held), b) {
             Judged::Met => write_met(name, b": met\n"),
             Judged::NotMet => write_met(name, b": not met\n"),
             Judged::Faulty(k) => write_answer(name, Answer::at(EXPRESSION_WRONG, k)),

@@ -1,15 +1,15 @@
 // Small states to make requests on, and parts of them altered: also to what is not well formed.
+use crate::calls::after;
 use expression::LONGEST;
 use policy::FILE_PLACES;
 use policy::FILES;
 use policy::File;
-use policy::Hold;
 use policy::ROLE_PLACES;
 use policy::ROLES;
 use policy::Role;
 use policy::SLOTS;
 use policy::State;
-use securon::SECURONS;
+use securon::ROOM;
 use tree::Tree;
 
 // The tree of 01's examples, two roles and two files whose expressions are all empty; slot 0 holds role 0.
@@ -27,7 +27,7 @@ pub(crate) fn base() -> State {
     image[13] = 2;
     image[40] = 2;
     let s = image::load(State::fresh(), &image).state;
-    gate::begin(s, 0, 0).state
+    after(s, gate::begin(s, 0, 0))
 }
 
 // A length and bytes at a place of a role, and zero past them: in order or not, as many as the length says or not.
@@ -43,9 +43,9 @@ pub(crate) fn role(mut s: State, role: usize, place: usize, m: u8, b: &[u8]) -> 
     }
     let roles = s.roles;
     let old = roles[role];
-    let put = old.put(place, b);
-    let mut lens = put.lens;
-    let bytes = put.bytes;
+    let mut lens = old.lens;
+    let mut bytes = old.bytes;
+    shelf::put(&mut lens, &mut bytes, place, b);
     lens[place] = m;
     s.roles[role] = Role { lens, bytes };
     s
@@ -64,9 +64,9 @@ pub(crate) fn file(mut s: State, file: usize, place: usize, m: u8, b: &[u8]) -> 
     }
     let files = s.files;
     let old = files[file];
-    let put = old.put(place, b);
-    let mut lens = put.lens;
-    let bytes = put.bytes;
+    let mut lens = old.lens;
+    let mut bytes = old.bytes;
+    shelf::put(&mut lens, &mut bytes, place, b);
     lens[place] = m;
     s.files[file] = File { lens, bytes };
     s
@@ -94,7 +94,7 @@ pub(crate) fn securons(mut s: State, n: usize) -> State {
 
 // Another parent.
 pub(crate) fn parent(mut s: State, u: usize, x: u8) -> State {
-    if SECURONS <= u {
+    if ROOM <= u {
         return s;
     }
     let t = s.tree;
@@ -106,12 +106,16 @@ pub(crate) fn parent(mut s: State, u: usize, x: u8) -> State {
     s
 }
 
-// A slot that holds a role.
-pub(crate) fn hold(s: State, slot: usize, role: u8) -> State {
+// A slot that holds a role: 0 is free, k + 1 holds role k.
+pub(crate) fn hold(mut s: State, slot: usize, role: u8) -> State {
     if SLOTS <= slot {
         return s;
     }
-    s.with_hold(slot, Hold::By(role))
+    if role == 255 {
+        return s;
+    }
+    s.slots[slot] = role + 1;
+    s
 }
 
 // Other counts of roles and of files.

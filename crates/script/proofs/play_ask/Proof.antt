@@ -12,20 +12,20 @@ uncalled-requires c κs = search needs
 returns : tie.Need-returns
 returns c = let p = c .before .before .before .pre in says-cut _ _ _ (c .uncalled .ensures .1) (c .uncalled .ensures .0) (p .0) (ask-cut _ (p .1) (omega arith))
 
-shared-slice-read-ask-effect : tie.Need-shared-slice-read-ask-effect
-shared-slice-read-ask-effect c = search needs
+shared-slice-read-ask : tie.Need-shared-slice-read-ask
+shared-slice-read-ask c = search needs
 
-shared-slice-read-ask-effect-2 : tie.Need-shared-slice-read-ask-effect-2
-shared-slice-read-ask-effect-2 c = search needs
+shared-slice-read-ask-2 : tie.Need-shared-slice-read-ask-2
+shared-slice-read-ask-2 c = search needs
 
-shared-slice-read-ask-effect-3 : tie.Need-shared-slice-read-ask-effect-3
-shared-slice-read-ask-effect-3 c = search needs
+shared-slice-read-ask-3 : tie.Need-shared-slice-read-ask-3
+shared-slice-read-ask-3 c = search needs
 
-ask-effect-requires : tie.Need-ask-effect-requires
-ask-effect-requires c κs = search needs
+ask-requires : tie.Need-ask-requires
+ask-requires c κs = search needs
 
 returns-2 : tie.Need-returns-2
-returns-2 c = let p = c .before .before .before .before .before .before .pre in record { within = c .ask-effect .ensures .within; is = (_, ask-whole _ (p .1) (omega arith), c .ask-effect .ensures .is, omega arith, omega arith) }
+returns-2 c = let p = c .before .before .before .before .before .before .pre in record { within = c .ask .ensures .within; is = (_, ask-whole _ (p .1) (omega arith), c .ask .ensures .is, omega arith, omega arith) }
 
 pub play-ask-spec : {M : Type 1} → statement M
 play-ask-spec =
@@ -33,8 +33,8 @@ play-ask-spec =
     (tie.spec
     uncalled-requires
     returns
-    shared-slice-read-ask-effect
-    shared-slice-read-ask-effect-2
-    shared-slice-read-ask-effect-3
-    ask-effect-requires
+    shared-slice-read-ask
+    shared-slice-read-ask-2
+    shared-slice-read-ask-3
+    ask-requires
     returns-2)

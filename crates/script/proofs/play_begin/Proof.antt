@@ -12,17 +12,17 @@ uncalled-requires c κs = search needs
 returns : tie.Need-returns
 returns c = let p = c .before .before .before .pre in says-cut _ _ _ (c .uncalled .ensures .1) (c .uncalled .ensures .0) (p .0) (begin-cut _ (p .1) (omega arith))
 
-shared-slice-read-begin-effect : tie.Need-shared-slice-read-begin-effect
-shared-slice-read-begin-effect c = search needs
+shared-slice-read-begin : tie.Need-shared-slice-read-begin
+shared-slice-read-begin c = search needs
 
-shared-slice-read-begin-effect-2 : tie.Need-shared-slice-read-begin-effect-2
-shared-slice-read-begin-effect-2 c = search needs
+shared-slice-read-begin-2 : tie.Need-shared-slice-read-begin-2
+shared-slice-read-begin-2 c = search needs
 
-begin-effect-requires : tie.Need-begin-effect-requires
-begin-effect-requires c κs = search needs
+begin-requires : tie.Need-begin-requires
+begin-requires c κs = search needs
 
 returns-2 : tie.Need-returns-2
-returns-2 c = let p = c .before .before .before .before .before .pre in record { within = c .begin-effect .ensures .within; is = (_, begin-whole _ (p .1) (omega arith), c .begin-effect .ensures .is, omega arith, omega arith) }
+returns-2 c = let p = c .before .before .before .before .before .pre in record { within = c .begin .ensures .within; is = (_, begin-whole _ (p .1) (omega arith), c .begin .ensures .is, omega arith, omega arith) }
 
 pub play-begin-spec : {M : Type 1} → statement M
 play-begin-spec =
@@ -30,7 +30,7 @@ play-begin-spec =
     (tie.spec
     uncalled-requires
     returns
-    shared-slice-read-begin-effect
-    shared-slice-read-begin-effect-2
-    begin-effect-requires
+    shared-slice-read-begin
+    shared-slice-read-begin-2
+    begin-requires
     returns-2)

@@ -4,17 +4,17 @@ use borrow.Author.Needs.{needs}
 use Rattle.script.proofs.store.Statement.{statement}
 use Rattle.script.proofs.store.Tie as tie
 
-change-effect-requires : tie.Need-change-effect-requires
-change-effect-requires c κs = search needs
+change-requires : tie.Need-change-requires
+change-requires c κs = search needs
 
 returns : tie.Need-returns
-returns c = rw (eq-eqb _ 4 (c .before .if1 .taken)) (c .change-effect .ensures)
+returns c = rw (eq-eqb _ 4 (c .before .if1 .taken)) (c .change .ensures)
 
-bypass-effect-requires : tie.Need-bypass-effect-requires
-bypass-effect-requires c κs = search needs
+bypass-requires : tie.Need-bypass-requires
+bypass-requires c κs = search needs
 
 returns-2 : tie.Need-returns-2
-returns-2 c = rw (ne-eqb _ 4 (c .before .if1 .left)) (c .bypass-effect .ensures)
+returns-2 c = rw (ne-eqb _ 4 (c .before .if1 .left)) (c .bypass .ensures)
 
 pub store-spec : {M : Type 1} → statement M
-store-spec = tie.close (tie.spec change-effect-requires returns bypass-effect-requires returns-2)
+store-spec = tie.close (tie.spec change-requires returns bypass-requires returns-2)

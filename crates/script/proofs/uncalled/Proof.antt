@@ -17,7 +17,10 @@ of-requires : tie.Need-of-requires
 of-requires c κs = search needs
 
 returns : tie.Need-returns
-returns c = (refl, record { within = omega arith; is = ap (λ (l : List File). setFiles (c .before .before .before .before .args .s) l) (set-getD (c .before .before .before .before .args .s .files) 0 offFile) })
+returns c =
+    let s = c .before .before .before .before .args .s in
+    let same = ap (λ (l : List File). setFiles s l) (set-getD (s .files) 0 offFile) in
+    (refl, record { within = omega arith; is = record { answer = c .of .ensures; state = same } })
 
 pub uncalled-spec : {M : Type 1} → statement M
 uncalled-spec = tie.close (tie.spec array-copy-out-file of-requires returns)
