@@ -17,7 +17,7 @@ ghost use Rattle.gate.specs.Parts.{Seen, Of, OfAll, StoredIs};
 // What a request comes to: the answer, and all of the state that it may alter, as it is after the request: the slots, and a file with its number. For a caller whose state lives in a variable: it stores both there, and no state is copied.
 pub struct Effect {
     pub answer: Answer,
-    pub slots: [u8; policy::SLOTS],
+    pub slots: [u16; policy::SLOTS],
     pub at: usize,
     pub file: File,
 }
@@ -161,7 +161,7 @@ fn file_effect(seen: Examined, answer: Answer, file: File) -> Effect
 }
 
 // The slots with one of them being this, and the file as it is.
-fn slot_effect(seen: Examined, answer: Answer, slot: usize, with: u8) -> Effect
+fn slot_effect(seen: Examined, answer: Answer, slot: usize, with: u16) -> Effect
     requires { ⌜ slot < slotCount ⌝ }
     ensures { λ r. ⌜ r ≡ effectOf answer (set (seen .slots) slot with) (seen .at) (seen .file) ⌝ }
 {

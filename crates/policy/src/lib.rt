@@ -11,7 +11,7 @@ ghost use Prim.Native.Nat.{_+_, _<_, _≤_};
 ghost use lib.ListN.{length};
 ghost use Rattle.expression.specs.Bytes.{longest};
 ghost use Rattle.tree.specs.Tree.{IsTree};
-ghost use Rattle.policy.specs.State.{IsMode, mostRoles, filePlaces, senses, parts, rolePlace, filePlace, noRole, noFile, noLevels, freshState, Free, By, heldIn, slotWith, roleIn, putPair};
+ghost use Rattle.policy.specs.State.{IsMode, filePlaces, senses, parts, rolePlace, filePlace, noRole, noFile, noLevels, freshState, Free, By, heldIn, slotWith, roleIn, putPair};
 ghost use Rattle.policy.specs.WellFormed.{TreeFine, Examines};
 ghost use Rattle.policy.specs.Fine.{roleShelves, fileShelves, OneIs, SlotIs, SlotsAre, RoleHeld, TreeExamined};
 
@@ -81,7 +81,7 @@ pub struct File {
 }
 
 // A slot is a number: 0 is free, k + 1 holds role k. The state holds numbers alone, so that any memory of its size is a state.
-pub const FREE: u8 = 0;
+pub const FREE: u16 = 0;
 
 #[repr(C)]
 pub struct State {
@@ -90,7 +90,7 @@ pub struct State {
     pub roles: [Role; ROLES],
     pub nfiles: usize,
     pub files: [File; FILES],
-    pub slots: [u8; SLOTS],
+    pub slots: [u16; SLOTS],
 }
 
 // What the examination of a state finds: whether it is well formed, and the levels of its tree. With it all that a request needs of the state, so that the state is gone through once: the tree, the counts, the slots, the role that a slot holds, and a file with its number.
@@ -100,7 +100,7 @@ pub struct Examined {
     pub levels: Levels,
     pub nroles: usize,
     pub nfiles: usize,
-    pub slots: [u8; SLOTS],
+    pub slots: [u16; SLOTS],
     pub role: Role,
     pub at: usize,
     pub file: File,
@@ -130,25 +130,17 @@ pub fn file_place(mode: usize, part: usize) -> usize
 }
 
 // Whether a slot is free.
-pub fn is_free(slot: u8) -> bool
+pub fn is_free(slot: u16) -> bool
     ensures { λ r. ⌜ (r ≡ true) ↔ (heldIn slot ≡ Free) ⌝ }
 {
     slot == FREE
 }
 
 // The slot that holds a role.
-pub fn held_by(role: u8) -> u8
-    requires { ⌜ role < mostRoles ⌝ }
+pub fn held_by(role: u8) -> u16
     ensures { λ r. ⌜ r ≡ slotWith (By role) ⌝ }
 {
-    role + 1
-}
-
-// A byte as a number that counts.
-fn wide(x: u8) -> usize
-    ensures { λ r. ⌜ r ≡ x ⌝ }
-{
-    x as usize
+    role as u16 + 1
 }
 
 // One role: a role that is there is a shelf of privilege expressions, one that is not is zero.
@@ -179,14 +171,14 @@ fn below(want: usize, most: usize) -> usize
 }
 
 // A role that a slot holds is below the count.
-fn slot_is(slot: u8, count: usize) -> bool
+fn slot_is(slot: u16, count: usize) -> bool
     ensures { λ x. ⌜ (x ≡ true) ↔ SlotIs count slot ⌝ }
 {
-    wide(slot) <= count
+    slot as usize <= count
 }
 
 // Every held role is below the count.
-fn slots_are(slots: [u8; SLOTS], count: usize) -> bool
+fn slots_are(slots: [u16; SLOTS], count: usize) -> bool
     ensures { λ x. ⌜ (x ≡ true) ↔ SlotsAre count slots ⌝ }
 {
     let mut ok = true;
@@ -197,17 +189,17 @@ fn slots_are(slots: [u8; SLOTS], count: usize) -> bool
 }
 
 // The number of the role that a slot holds; 0 where it is free.
-fn number_held(slot: u8) -> usize
+fn number_held(slot: u16) -> usize
     ensures { λ x. ⌜ x ≡ roleIn (heldIn slot) ⌝ }
 {
     if slot == FREE {
         return 0;
     }
-    wide(slot - 1)
+    slot as usize - 1
 }
 
 // The number of the role of a session, below 32 whatever the slot.
-fn role_held(slots: [u8; SLOTS], slot: usize) -> usize
+fn role_held(slots: [u16; SLOTS], slot: usize) -> usize
     ensures { λ x. ⌜ RoleHeld slots slot x ⌝ }
 {
     if SLOTS <= slot {

@@ -106,15 +106,12 @@ pub(crate) fn parent(mut s: State, u: usize, x: u8) -> State {
     s
 }
 
-// A slot that holds a role: 0 is free, k + 1 holds role k.
+// A slot that holds a role.
 pub(crate) fn hold(mut s: State, slot: usize, role: u8) -> State {
     if SLOTS <= slot {
         return s;
     }
-    if role == 255 {
-        return s;
-    }
-    s.slots[slot] = role + 1;
+    s.slots[slot] = policy::held_by(role);
     s
 }
 

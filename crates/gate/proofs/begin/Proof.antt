@@ -1,8 +1,6 @@
 -- `gate::begin` meets its contract: a grant gives the slot its role, a refusal gives back what was seen. Assumes nothing.
 use mathlib.Core.Path.{refl}
-use native.Mathlib.Omega.{arith}
 use Rattle.logic.specs.Iff.{not-then-false}
-use Rattle.answer.specs.Answers.{Granted}
 use Rattle.policy.specs.State.{By}
 use Rattle.gate.specs.Granted.{BeginGranted}
 use Rattle.gate.specs.Laws.{begin-granted}
@@ -29,7 +27,7 @@ granted-requires : tie.Need-granted-requires
 granted-requires c κs = search needs
 
 held-by-requires : tie.Need-held-by-requires
-held-by-requires c κs = let h = known c in omega (arith, h .present, h .well-formed .role-count)
+held-by-requires c κs = search needs
 
 slot-effect-requires : tie.Need-slot-effect-requires
 slot-effect-requires c κs = known (c .before) .known

@@ -22,6 +22,9 @@ returns-2 : tie.Need-returns-2
 returns-2 c = λ file s x.
     inr (x .says .0 (not-false _ (c .before .before .if1 .left)), inl (refused (λ h. omega arith) (c .of2 .ensures)))
 
+mul-is-free : tie.Need-mul-is-free
+mul-is-free c = search needs
+
 array-read-is-free : tie.Need-array-read-is-free
 array-read-is-free c = search needs
 
@@ -63,6 +66,7 @@ begin-answer-spec =
     returns
     of-requires-2
     returns-2
+    mul-is-free
     array-read-is-free
     is-free-requires
     of-requires-3

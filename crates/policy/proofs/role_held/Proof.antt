@@ -17,6 +17,9 @@ returns c =
     let free = ap (λ (x : ℕ). roleIn (heldIn x)) none in
     record { within = omega arith; is = λ _. sym free; else = λ h. refl }
 
+mul-number-held : tie.Need-mul-number-held
+mul-number-held c = search needs
+
 array-read-number-held : tie.Need-array-read-number-held
 array-read-number-held c = search needs
 
@@ -38,4 +41,4 @@ returns-2 c =
 pub role-held-spec : {M : Type 1} → statement M
 role-held-spec =
     tie.close
-    (tie.spec returns array-read-number-held number-held-requires below-requires returns-2)
+    (tie.spec returns mul-number-held array-read-number-held number-held-requires below-requires returns-2)

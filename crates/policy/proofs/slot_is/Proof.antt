@@ -1,17 +1,13 @@
 -- `policy::slot_is` meets its contract: the slot's number is compared with the count. Assumes nothing.
 use Rattle.logic.specs.Iff.{iff-trans, most-iff}
 use Rattle.policy.proofs.Slots.{slot-within}
-use borrow.Author.Needs.{needs}
 use Rattle.policy.proofs.slot_is.Statement.{statement}
 use Rattle.policy.proofs.slot_is.Tie as tie
 
-wide-requires : tie.Need-wide-requires
-wide-requires c κs = search needs
-
 returns : tie.Need-returns
 returns c =
-    let a = c .before .args in
-    rw (c .wide .ensures) (iff-trans (most-iff (a .slot) (a .count)) (slot-within (a .count) (a .slot)))
+    let a = c .args in
+    (iff-trans (most-iff (a .slot) (a .count)) (slot-within (a .count) (a .slot)))
 
 pub slot-is-spec : {M : Type 1} → statement M
-slot-is-spec = tie.close (tie.spec wide-requires returns)
+slot-is-spec = tie.close (tie.spec returns)

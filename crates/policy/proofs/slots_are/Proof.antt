@@ -20,6 +20,9 @@ abbrev μ-loop : tie.MeasureT-loop
 loop-holds : tie.Need-loop-holds Inv-loop μ-loop
 loop-holds c = (search needs, flag-none _)
 
+mul-slot-is : tie.Need-mul-slot-is Inv-loop μ-loop
+mul-slot-is c = omega arith
+
 array-read-slot-is : tie.Need-array-read-slot-is Inv-loop μ-loop
 array-read-slot-is c = search needs
 
@@ -47,6 +50,7 @@ slots-are-spec =
     Inv-loop
     μ-loop
     loop-holds
+    mul-slot-is
     array-read-slot-is
     slot-is-requires
     add-i
