@@ -13,7 +13,7 @@ use Rattle.answer.specs.Numbers.{done}
 use Rattle.answer.specs.Answers.{Condition, Is, Granted, DecidesAt, AllHold}
 use Rattle.answer.specs.Lists.{refused-first, then-second}
 use Rattle.tree.specs.declared.Tree.{Tree}
-use Rattle.tree.specs.Tree.{LevelsOf, Ready}
+use Rattle.tree.specs.Tree.{Ready}
 use Rattle.tree.specs.Laws.{one-depth}
 use Rattle.expression.specs.declared.Kind.{Kind}
 use Rattle.expression.specs.Bytes.{Right}
@@ -45,17 +45,14 @@ module _ {s : State} {slot file : ℕ} {seen : Examined} (x : Examines s slot fi
   pub hold-seen : heldIn (getD (seen .slots) slot 0) ≡ holdOf s slot
   hold-seen = ap (λ (l : List ℕ). heldIn (getD l slot 0)) (x .slots-is)
 
-  -- the levels of a well-formed state
-  pub levels-seen : WellFormed s → LevelsOf (s .tree) (seen .levels)
-  levels-seen w = x .levels (record { room = w .room .parents; is-tree = w .tree; root = w .unused-zero .root; past = w .unused-zero .parents })
-
+  -- the tree with its levels
   pub ready : WellFormed s → Ready (seen .tree) (seen .levels)
-  ready w = rw (x .tree-is) (record { tree = w .tree; levels = levels-seen w })
+  ready w = rw (x .tree-is) (record { tree = w .tree; levels = x .levels w })
 
   -- what is in order over the tree is right over its levels
   pub right-over : WellFormed s → (kind : Kind) (bs : List ℕ) → InOrderOver kind (s .tree) bs → Right kind (seen .tree .n) (seen .levels .depth .0) bs
   right-over w kind bs (d, deep, o) =
-      rw (x .tree-is) (subst (λ (k : ℕ). Right kind (s .tree .n) k bs) (one-depth deep (levels-seen w .depth)) (o .1))
+      rw (x .tree-is) (subst (λ (k : ℕ). Right kind (s .tree .n) k bs) (one-depth deep (x .levels w .depth)) (o .1))
 
   -- of a session, its role and a file that is there
   module _ (ses : SessionGranted s slot) (present : Present s file) where
@@ -71,7 +68,7 @@ module _ {s : State} {slot file : ℕ} {seen : Examined} (x : Examines s slot fi
     pub at-hand : AtHand (seen .tree) (seen .levels) (seen .role) (seen .file)
     at-hand =
         let w = ses .well-formed in
-        let e = one-depth (w .is-depth) (levels-seen w .depth) in
+        let e = one-depth (w .is-depth) (x .levels w .depth) in
         let d = seen .levels .depth .0 in
         let r = roleAt s (roleOf s slot) in
         let role : RoleInOrder (s .tree .n) d r = subst (λ (k : ℕ). RoleInOrder (s .tree .n) k r) e (w .roles-in-order (roleOf s slot) role-few) in

@@ -1,5 +1,5 @@
 -- Small laws of tests and of "exactly when". Assumes nothing.
-use mathlib.Core.Path.{_≡_, refl}
+use mathlib.Core.Path.{_≡_, refl, sym}
 use mathlib.Core.Bool.{Bool, true, false, _&&_, _||_, false≢true}
 use mathlib.Core.Logic.{_⊎_, inl, inr, ⊎-elim, _↔_}
 use Prim.Native.Nat.{ℕ, _≤_}
@@ -27,6 +27,11 @@ iff-trans f g = ((λ a. g .0 (f .0 a)), λ c. f .1 (g .1 c))
 pub not-then-false : {x : Bool} {A : Type 0} → (x ≡ true) ↔ A → x ≡ false → A → ⊥
 not-then-false {x} f e a = false≢true (rw e at (f .1 a))
 
+-- where the fact does not hold, the test is false
+pub not-holds : (x : Bool) {A : Type 0} → (x ≡ true) ↔ A → (A → ⊥) → x ≡ false
+not-holds true f n = absurd (n (f .0 refl))
+not-holds false f n = refl
+
 -- a test that says no, where the fact does not hold
 pub no-iff : {A : Type 0} → (A → ⊥) → (false ≡ true) ↔ A
 no-iff n = ((λ e. absurd (false≢true e)), λ a. absurd (n a))
@@ -41,3 +46,9 @@ zero-iff x = (eqb-true x 0, eq-eqb x 0)
 
 pub most-iff : (a b : ℕ) → (leb a b ≡ true) ↔ (a ≤ b)
 most-iff a b = (leb-true a b, le-leb a b)
+
+-- two tests of one fact say the same
+pub one-test : (x y : Bool) {A : Type 0} → (x ≡ true) ↔ A → (y ≡ true) ↔ A → x ≡ y
+one-test true y f g = sym (g .1 (f .0 refl))
+one-test false true f g = absurd (false≢true (f .1 (g .0 refl)))
+one-test false false f g = refl

@@ -2,14 +2,13 @@
 use mathlib.Core.Path.{_≡_, sym, subst}
 use mathlib.Core.Bool.{Bool, true, _&&_}
 use mathlib.Core.Logic.{_↔_}
-use Prim.Native.Nat.{ℕ}
-use lib.Dec.{leb}
-use Rattle.logic.specs.Iff.{and-iff, iff-trans, most-iff}
+use Prim.Native.Nat.{ℕ, _≤_}
+use Rattle.logic.specs.Iff.{and-iff, iff-trans}
 use Rattle.policy.specs.declared.Grown.{Grown}
 use Rattle.policy.specs.declared.State.{State}
 use Rattle.policy.specs.State.{mostRoles, mostFiles}
-use Rattle.policy.specs.WellFormed.{WellFormed, TreeFine}
-use Rattle.policy.specs.Fine.{TreeExamined, roleShelves, fileShelves, roleUsed, fileUsed, AllAre, SlotsAre}
+use Rattle.policy.specs.WellFormed.{WellFormed}
+use Rattle.policy.specs.Fine.{TreeFine, TreeExamined, roleShelves, fileShelves, roleUsed, fileUsed, AllAre, SlotsAre}
 use Rattle.policy.specs.Whole.{fine-well-formed, well-formed-fine}
 
 -- the tests of the parts, together
@@ -20,10 +19,12 @@ module _ (s : State) (g : Grown) (t : TreeExamined (s .tree) g) where
   abbrev Files : ℕ → Type 0
   Files n = AllAre fileShelves (fileUsed s) n (g .levels .depth .0) (s .files)
 
-  pub tested : {a b c : Bool} → (a ≡ true) ↔ Roles (g .n) → (b ≡ true) ↔ Files (g .n) → (c ≡ true) ↔ SlotsAre (s .nroles) (s .slots)
-      → ((g .ok && (leb (s .nroles) mostRoles && leb (s .nfiles) mostFiles) && a && b && c) ≡ true) ↔ WellFormed s
-  tested p q h =
-      let counts = and-iff _ _ (most-iff (s .nroles) mostRoles) (most-iff (s .nfiles) mostFiles) in
+  pub tree-told : WellFormed s → TreeFine (s .tree)
+  tree-told w = record { room = w .room .parents; is-tree = w .tree; root = w .unused-zero .root; past = w .unused-zero .parents }
+
+  pub tested : {k a b c : Bool} → (k ≡ true) ↔ ((s .nroles ≤ mostRoles) × (s .nfiles ≤ mostFiles)) → (a ≡ true) ↔ Roles (g .n) → (b ≡ true) ↔ Files (g .n)
+      → (c ≡ true) ↔ SlotsAre (s .nroles) (s .slots) → ((g .ok && k && a && b && c) ≡ true) ↔ WellFormed s
+  tested counts p q h =
       iff-trans (and-iff _ _ (and-iff _ _ (and-iff _ _ (and-iff _ _ (t .says) counts) p) q) h) (
         (λ w.
             let tree = w .0 .0 .0 .0 in
@@ -36,7 +37,7 @@ module _ (s : State) (g : Grown) (t : TreeExamined (s .tree) g) where
               slots = w .1;
             })),
         λ w.
-            let tree : TreeFine (s .tree) = record { room = w .room .parents; is-tree = w .tree; root = w .unused-zero .root; past = w .unused-zero .parents } in
+            let tree = tree-told w in
             let f = well-formed-fine s _ (t .levels tree .depth) w in
             let roles = subst Roles (sym (t .count tree)) (f .roles) in
             let files = subst Files (sym (t .count tree)) (f .files) in

@@ -12,7 +12,7 @@ use Rattle.securon.specs.Sets.{setRoom}
 use Rattle.tree.specs.declared.Tree.{Tree}
 use Rattle.tree.specs.Tree.{IsTree}
 use Rattle.shelf.specs.Shelf.{AllZero}
-use Rattle.policy.specs.WellFormed.{TreeFine}
+use Rattle.policy.specs.Fine.{TreeFine}
 
 module _ (t : Tree) (long : length (t .parent) ≡ setRoom) (tree : IsTree t) where
   rest : take (setRoom - t .n) (drop (t .n) (t .parent)) ≡ drop (t .n) (t .parent)

@@ -7,15 +7,15 @@ use Prim.Native.Nat.{ℕ, _<_, _≤_}
 use lib.Dec.{ltb}
 use lib.ListN.{length, getD}
 use Rattle.tree.specs.declared.Tree.{Tree}
-use Rattle.tree.specs.Tree.{LevelsOf}
+use Rattle.securon.specs.Sets.{setRoom}
+use Rattle.tree.specs.Tree.{IsTree, LevelsOf}
 use Rattle.shelf.specs.Shelf.{ZeroShelf}
 use Rattle.shelf.specs.Fine.{ShelfIs}
 use Rattle.policy.specs.declared.Role.{Role}
 use Rattle.policy.specs.declared.File.{File}
 use Rattle.policy.specs.declared.State.{State}
 use Rattle.policy.specs.declared.Grown.{Grown}
-use Rattle.policy.specs.State.{mostRoles, mostFiles, slotCount, rolePlaces, filePlaces, offRole, offFile, By, heldIn, roleIn, noLevels}
-use Rattle.policy.specs.WellFormed.{TreeFine}
+use Rattle.policy.specs.State.{mostRoles, mostFiles, slotCount, rolePlaces, filePlaces, offRole, offFile, By, heldIn, roleIn}
 
 -- what roles and files have in common: shelves of so many places, so many of them, and nothing past the last
 pub record Shelving (X : Type 0) : Type 0 where
@@ -82,13 +82,19 @@ pub record RoleHeld (slots : List ℕ) (slot x : ℕ) : Type 0 where
   pub is : roleIn (heldIn (getD slots slot 0)) < mostRoles → x ≡ roleIn (heldIn (getD slots slot 0))
   pub else : mostRoles ≤ roleIn (heldIn (getD slots slot 0)) → x ≡ 0
 
+-- a tree in its room: the parents that no securon has, those of the root and from n up, are zero
+pub record TreeFine (t : Tree) : Type 0 where
+  pub room : length (t .parent) ≡ setRoom
+  pub is-tree : IsTree t
+  pub root : getD (t .parent) 0 0 ≡ 0
+  pub past : (u : ℕ) → t .n ≤ u → getD (t .parent) u 0 ≡ 0
+
 -- what the test of a tree tells
 pub record TreeExamined (t : Tree) (r : Grown) : Type 0 where
   pub says : (r .ok ≡ true) ↔ TreeFine t
   pub some : 0 < r .n
   pub count : TreeFine t → r .n ≡ t .n
   pub levels : TreeFine t → LevelsOf t (r .levels)
-  pub no-levels : (TreeFine t → ⊥) → r .levels ≡ noLevels
 
 -- a state part by part, over the depth d of its tree
 pub record StateFine (s : State) (d : ℕ) : Type 0 where

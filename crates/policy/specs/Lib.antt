@@ -6,3 +6,4 @@ pub mod Whole
 pub mod Kept
 pub mod Fresh
 pub mod Reads
+pub mod One

@@ -6,7 +6,6 @@ use mathlib.Core.Logic.{_↔_}
 use Prim.Native.Nat.{ℕ, _<_, _≤_}
 use lib.ListN.{length, getD}
 use Rattle.securon.specs.Sets.{setRoom}
-use Rattle.tree.specs.declared.Tree.{Tree}
 use Rattle.tree.specs.Tree.{IsTree, IsDepth, LevelsOf}
 use Rattle.expression.specs.declared.Kind.the-variants.{Privilege, Protection}
 use Rattle.shelf.specs.Shelf.{HasPlaces, PartInOrder, roomPast, AllZero, ZeroShelf}
@@ -67,19 +66,12 @@ pub record WellFormed (s : State) : Type 0 where
   -- unused room zero
   pub unused-zero : UnusedZero s
 
--- a tree in its room: the parents that no securon has, those of the root and from n up, are zero
-pub record TreeFine (t : Tree) : Type 0 where
-  pub room : length (t .parent) ≡ setRoom
-  pub is-tree : IsTree t
-  pub root : getD (t .parent) 0 0 ≡ 0
-  pub past : (u : ℕ) → t .n ≤ u → getD (t .parent) u 0 ≡ 0
-
--- what the examination of a state tells: whether it is well formed, and the levels of its tree; with it all that a request needs of the state:
+-- what the examination of a state tells: whether it is well formed, and if so the levels of its tree; with it all that a request needs of the state:
 -- the tree, the counts and the slots, the role that a slot holds, and a file with its number
 pub record Examines (s : State) (slot file : ℕ) (r : Examined) : Type 0 where
   pub says : (r .ok ≡ true) ↔ WellFormed s
-  pub levels : TreeFine (s .tree) → LevelsOf (s .tree) (r .levels)
-  pub no-levels : (TreeFine (s .tree) → ⊥) → r .levels ≡ noLevels
+  pub levels : WellFormed s → LevelsOf (s .tree) (r .levels)
+  pub no-levels : (WellFormed s → ⊥) → r .levels ≡ noLevels
   pub tree-is : r .tree ≡ s .tree
   pub nroles-is : r .nroles ≡ s .nroles
   pub nfiles-is : r .nfiles ≡ s .nfiles

@@ -5,15 +5,15 @@ use securon::ROOM;
 use tree::Levels;
 use tree::Tree;
 ghost use mathlib.Core.Path.{_≡_};
-ghost use mathlib.Core.Bool.{true};
+ghost use mathlib.Core.Bool.{true, false};
 ghost use mathlib.Core.Logic.{_↔_};
 ghost use Prim.Native.Nat.{_+_, _<_, _≤_};
 ghost use lib.ListN.{length};
 ghost use Rattle.expression.specs.Bytes.{longest};
 ghost use Rattle.tree.specs.Tree.{IsTree};
-ghost use Rattle.policy.specs.State.{IsMode, filePlaces, senses, parts, rolePlace, filePlace, noRole, noFile, noLevels, freshState, Free, By, heldIn, slotWith, roleIn, putPair};
-ghost use Rattle.policy.specs.WellFormed.{TreeFine, Examines};
-ghost use Rattle.policy.specs.Fine.{roleShelves, fileShelves, OneIs, SlotIs, SlotsAre, RoleHeld, TreeExamined};
+ghost use Rattle.policy.specs.State.{IsMode, mostRoles, mostFiles, filePlaces, senses, parts, rolePlace, filePlace, noRole, noFile, noLevels, freshState, Free, By, heldIn, slotWith, roleIn, putPair};
+ghost use Rattle.policy.specs.WellFormed.{Examines};
+ghost use Rattle.policy.specs.Fine.{roleShelves, fileShelves, OneIs, SlotIs, SlotsAre, RoleHeld, TreeFine, TreeExamined};
 
 // The most roles and the most files; the slots.
 pub const ROLES: usize = 32;
@@ -93,7 +93,8 @@ pub struct State {
     pub slots: [u16; SLOTS],
 }
 
-// What the examination of a state finds: whether it is well formed, and the levels of its tree. With it all that a request needs of the state, so that the state is gone through once: the tree, the counts, the slots, the role that a slot holds, and a file with its number.
+// What the examination of a state finds: whether it is well formed, and if so the levels of its tree. With it all that a request needs of the state,
+// so that the state is gone through once: the tree, the counts, the slots, the role that a slot holds, and a file with its number.
 pub struct Examined {
     pub ok: bool,
     pub tree: Tree,
@@ -188,6 +189,13 @@ fn slots_are(slots: [u16; SLOTS], count: usize) -> bool
     ok
 }
 
+// The counts of roles and of files are in range.
+fn counts_fit(nroles: usize, nfiles: usize) -> bool
+    ensures { λ x. ⌜ (x ≡ true) ↔ ((nroles ≤ mostRoles) × (nfiles ≤ mostFiles)) ⌝ }
+{
+    (nroles <= ROLES) & (nfiles <= FILES)
+}
+
 // The number of the role that a slot holds; 0 where it is free.
 fn number_held(slot: u16) -> usize
     ensures { λ x. ⌜ x ≡ roleIn (heldIn slot) ⌝ }
@@ -228,7 +236,27 @@ fn tree_fine(tree: Tree) -> bool
     false
 }
 
-// The same, with the levels of a tree that is fine, and none of another.
+// The levels of what is no tree.
+fn no_levels() -> Levels
+    ensures { λ r. ⌜ r ≡ noLevels ⌝ }
+{
+    Levels {
+        of: [Level(0); ROOM],
+        depth: Level(0),
+    }
+}
+
+// These levels, or none.
+fn levels_if(ok: bool, levels: Levels) -> Levels
+    ensures { λ r. ⌜ (ok ≡ true → r ≡ levels) × (ok ≡ false → r ≡ noLevels) ⌝ }
+{
+    if ok {
+        return levels;
+    }
+    no_levels()
+}
+
+// Whether it is a tree and unused room is zero; with the levels of a tree that is fine, and none of another.
 fn examine_tree(tree: Tree) -> Grown
     ensures { λ r. ⌜ TreeExamined tree r ⌝ }
 {
@@ -240,14 +268,10 @@ fn examine_tree(tree: Tree) -> Grown
             levels,
         };
     }
-    let levels = Levels {
-        of: [Level(0); ROOM],
-        depth: Level(0),
-    };
     Grown {
         ok: false,
         n: 1,
-        levels,
+        levels: no_levels(),
     }
 }
 
@@ -306,15 +330,14 @@ impl State {
         }
     }
 
-    // Whether the state is well formed; with all that a request needs of it, the role that a slot holds and a file among it. Both walks stand here, since an array that is handed on is copied.
+    // Whether the state is well formed; with all that a request needs of it, the role that a slot holds and a file among it.
+    // Both walks stand here, since an array that is handed on is copied.
     pub fn examine(self, slot: usize, file: usize) -> Examined
         ensures { λ r. ⌜ Examines self slot file r ⌝ }
     {
         let tree = self.tree;
         let grown = examine_tree(tree);
         let levels = grown.levels;
-        let depth = levels.depth;
-        let n = grown.n;
         let nroles = self.nroles;
         let nfiles = self.nfiles;
         let slots = self.slots;
@@ -323,23 +346,22 @@ impl State {
         let mut rok = true;
         for i in 0..ROLES {
             let r = roles[i];
-            rok = rok & role_is(r, i < nroles, n, depth);
+            rok = rok & role_is(r, i < nroles, grown.n, levels.depth);
         }
         let mut fok = true;
         for j in 0..FILES {
             let f = files[j];
-            fok = fok & file_is(f, j < nfiles, n, depth);
+            fok = fok & file_is(f, j < nfiles, grown.n, levels.depth);
         }
-        let held = slots_are(slots, nroles);
-        let counts = (nroles <= ROLES) & (nfiles <= FILES);
+        let ok = grown.ok & counts_fit(nroles, nfiles) & rok & fok & slots_are(slots, nroles);
         let mine = role_held(slots, slot);
         let role = roles[mine];
         let at = below(file, FILES);
         let its = files[at];
         Examined {
-            ok: grown.ok & counts & rok & fok & held,
+            ok,
             tree,
-            levels,
+            levels: levels_if(ok, levels),
             nroles,
             nfiles,
             slots,

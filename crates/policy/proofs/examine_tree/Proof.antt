@@ -18,17 +18,15 @@ returns c = record {
   some = c .before .before .tree-fine .ensures .0 (c .before .if1 .taken) .is-tree .count .0;
   count = λ _. refl;
   levels = λ _. c .levels .ensures;
-  no-levels = λ n. absurd (n (c .before .before .tree-fine .ensures .0 (c .before .if1 .taken)));
 }
+
+no-levels-requires : tie.Need-no-levels-requires
+no-levels-requires c κs = search needs
 
 returns-2 : tie.Need-returns-2
-returns-2 c = record {
-  says = no-iff (not-then-false (c .before .tree-fine .ensures) (c .if1 .left));
-  some = omega arith;
-  count = λ f. absurd (not-then-false (c .before .tree-fine .ensures) (c .if1 .left) f);
-  levels = λ f. absurd (not-then-false (c .before .tree-fine .ensures) (c .if1 .left) f);
-  no-levels = λ _. refl;
-}
+returns-2 c =
+    let none = not-then-false (c .before .before .tree-fine .ensures) (c .before .if1 .left) in
+    record { says = no-iff none; some = omega arith; count = λ f. absurd (none f); levels = λ f. absurd (none f) }
 
 pub examine-tree-spec : {M : Type 1} → statement M
-examine-tree-spec = tie.close (tie.spec tree-fine-requires levels-requires returns returns-2)
+examine-tree-spec = tie.close (tie.spec tree-fine-requires levels-requires returns no-levels-requires returns-2)

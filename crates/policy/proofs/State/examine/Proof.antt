@@ -1,4 +1,5 @@
--- `policy::State::examine` meets its contract: a flag says of every role passed that it is fine or zero, another of every file; with the tree, the counts and the slots they make the test. The measures are what is left of each. Assumes nothing.
+-- `policy::State::examine` meets its contract: a flag says of every role passed that it is fine or zero, another of every file; with the tree, the counts
+-- and the slots they make the test. The measures are what is left of each. Assumes nothing.
 use mathlib.Core.Path.{_≡_, refl, sym, ap, _∙_}
 use Prim.Native.Nat.{ℕ, _≤_, _-_}
 use native.Mathlib.Omega.{arith}
@@ -6,26 +7,27 @@ use borrow.Author.Needs.{needs}
 use lib.Dec.{ltb}
 use lib.ListN.{length, getD, length-map}
 use Rattle.logic.specs.Every.{Flag, flag-none, flag-and}
+use Rattle.logic.specs.Iff.{not-holds}
 use Rattle.policy.specs.State.{mostRoles, mostFiles, offRole, offFile, roleAt}
 use Rattle.policy.specs.Fine.{OneIs, roleShelves, fileShelves}
 use Rattle.policy.proofs.Walks.{walked}
-use Rattle.policy.proofs.Test.{tested}
+use Rattle.policy.proofs.Test.{tree-told, tested}
 use Rattle.policy.proofs.State.examine.Statement.{statement}
 use Rattle.policy.proofs.State.examine.Tie as tie
 
 abbrev Inv-loop : tie.InvT-loop
-Inv-loop slot file tree grown levels depth n nroles nfiles slots roles files rok₀ i₀ rok i =
-    (i ≤ mostRoles) × Flag (λ (k : ℕ). OneIs roleShelves (ltb k nroles) n (depth .0) (getD roles k offRole)) i rok
+Inv-loop slot file tree grown levels nroles nfiles slots roles files rok₀ i₀ rok i =
+    (i ≤ mostRoles) × Flag (λ (k : ℕ). OneIs roleShelves (ltb k nroles) (grown .n) (levels .depth .0) (getD roles k offRole)) i rok
 
 abbrev μ-loop : tie.MeasureT-loop
-μ-loop slot file tree grown levels depth n nroles nfiles slots roles files rok₀ i₀ rok i = mostRoles - i
+μ-loop slot file tree grown levels nroles nfiles slots roles files rok₀ i₀ rok i = mostRoles - i
 
 abbrev Inv-loop2 : tie.InvT-loop2
-Inv-loop2 slot file tree grown levels depth n nroles nfiles slots roles files rok fok₀ j₀ fok j =
-    (j ≤ mostFiles) × Flag (λ (k : ℕ). OneIs fileShelves (ltb k nfiles) n (depth .0) (getD files k offFile)) j fok
+Inv-loop2 slot file tree grown levels nroles nfiles slots roles files rok fok₀ j₀ fok j =
+    (j ≤ mostFiles) × Flag (λ (k : ℕ). OneIs fileShelves (ltb k nfiles) (grown .n) (levels .depth .0) (getD files k offFile)) j fok
 
 abbrev μ-loop2 : tie.MeasureT-loop2
-μ-loop2 slot file tree grown levels depth n nroles nfiles slots roles files rok fok₀ j₀ fok j = mostFiles - j
+μ-loop2 slot file tree grown levels nroles nfiles slots roles files rok fok₀ j₀ fok j = mostFiles - j
 
 examine-tree-requires : tie.Need-examine-tree-requires Inv-loop μ-loop Inv-loop2 μ-loop2
 examine-tree-requires c κs = search needs
@@ -40,7 +42,7 @@ array-copy-out-r : tie.Need-array-copy-out-r Inv-loop μ-loop Inv-loop2 μ-loop2
 array-copy-out-r c = omega arith
 
 role-is-requires : tie.Need-role-is-requires Inv-loop μ-loop Inv-loop2 μ-loop2
-role-is-requires c κs = c .before .before .before .before .before .before .before .before .examine-tree .ensures .some
+role-is-requires c κs = c .before .before .before .before .before .before .before .examine-tree .ensures .some
 
 add-i : tie.Need-add-i Inv-loop μ-loop Inv-loop2 μ-loop2
 add-i c = omega arith
@@ -61,7 +63,7 @@ array-copy-out-f : tie.Need-array-copy-out-f Inv-loop μ-loop Inv-loop2 μ-loop2
 array-copy-out-f c = omega arith
 
 file-is-requires : tie.Need-file-is-requires Inv-loop μ-loop Inv-loop2 μ-loop2
-file-is-requires c κs = c .before .before .before .before .before .before .before .before .before .before .examine-tree .ensures .some
+file-is-requires c κs = c .before .before .before .before .before .before .before .before .before .examine-tree .ensures .some
 
 add-j : tie.Need-add-j Inv-loop μ-loop Inv-loop2 μ-loop2
 add-j c = omega arith
@@ -71,6 +73,9 @@ loop2-less c = omega arith
 
 loop2-again : tie.Need-loop2-again Inv-loop μ-loop Inv-loop2 μ-loop2
 loop2-again c = (omega arith, flag-and (c .before .before .before .loop2 .inv .1) (c .file-is .ensures))
+
+counts-fit-requires : tie.Need-counts-fit-requires Inv-loop μ-loop Inv-loop2 μ-loop2
+counts-fit-requires c κs = search needs
 
 slots-are-requires : tie.Need-slots-are-requires Inv-loop μ-loop Inv-loop2 μ-loop2
 slots-are-requires c κs = search needs
@@ -93,19 +98,27 @@ mul-its c = omega (arith, c .below .ensures .0)
 array-copy-out-its : tie.Need-array-copy-out-its Inv-loop μ-loop Inv-loop2 μ-loop2
 array-copy-out-its c = omega (arith, c .below .ensures .0)
 
+levels-if-requires : tie.Need-levels-if-requires Inv-loop μ-loop Inv-loop2 μ-loop2
+levels-if-requires c κs = search needs
+
 returns : tie.Need-returns Inv-loop μ-loop Inv-loop2 μ-loop2
 returns c =
-    let s = c .before .before .before .before .before .before .before .before .before .before .before .before .before .before .before .before .before .args .self in
-    let t = c .before .before .before .before .before .before .before .before .before .before .before .before .before .before .before .examine-tree .ensures in
-    let rs : length (s .roles) ≡ mostRoles = sym (length-map (s .roles) _) ∙ c .before .before .before .before .before .before .before .before .before .before .before .before .before .before .before .before .before .good .0 .1 .1 .1 .1 .0 .1 .0 .1 in
-    let fs : length (s .files) ≡ mostFiles = sym (length-map (s .files) _) ∙ c .before .before .before .before .before .before .before .before .before .before .before .before .before .before .before .before .before .good .0 .1 .1 .1 .1 .1 .1 .0 .1 .0 .1 in
-    let roles = walked roleShelves (s .roles) rs (c .before .before .before .before .before .before .before .before .before .loop .inv .1) (omega arith) in
-    let files = walked fileShelves (s .files) fs (c .before .before .before .before .before .before .before .loop2 .inv .1) (omega arith) in
+    let walk = c .before .before .before .before .before .before .before .before in
+    let start = walk .before .before .before .before .before .before .before .before .before .before in
+    let s = start .args .self in
+    let g = walk .before .before .before .before .before .before .before .before .examine-tree in
+    let t = g .ensures in
+    let rs : length (s .roles) ≡ mostRoles = sym (length-map (s .roles) _) ∙ start .good .0 .1 .1 .1 .1 .0 .1 .0 .1 in
+    let fs : length (s .files) ≡ mostFiles = sym (length-map (s .files) _) ∙ start .good .0 .1 .1 .1 .1 .1 .1 .0 .1 .0 .1 in
+    let roles = walked roleShelves (s .roles) rs (walk .before .before .before .loop .inv .1) (omega arith) in
+    let files = walked fileShelves (s .files) fs (walk .before .loop2 .inv .1) (omega arith) in
+    let all = tested s (g .result) t (c .before .before .before .before .before .before .before .counts-fit .ensures) roles files (c .before .before .before .before .before .slots-are .ensures) in
     let held = c .before .before .before .before .role-held .ensures in
+    let levels = c .levels-if .ensures in
     record {
-      says = tested s _ t roles files (c .before .before .before .before .before .slots-are .ensures);
-      levels = t .levels;
-      no-levels = t .no-levels;
+      says = all;
+      levels = λ w. rw (levels .0 (all .1 w)) (t .levels (tree-told s (g .result) t w));
+      no-levels = λ n. levels .1 (not-holds _ all n);
       tree-is = refl;
       nroles-is = refl;
       nfiles-is = refl;
@@ -140,6 +153,7 @@ examine-spec =
     add-j
     loop2-less
     loop2-again
+    counts-fit-requires
     slots-are-requires
     role-held-requires
     mul-role
@@ -147,4 +161,5 @@ examine-spec =
     below-requires
     mul-its
     array-copy-out-its
+    levels-if-requires
     returns)
