@@ -13,9 +13,7 @@ use lib.Seq.{take-suc}
 use borrow.Author.Tests.{ltb-true, lt-ltb, le-ltb, eqb-true, eq-eqb}
 use Rattle.text.specs.Classes.{classOf, value, pick, digit, space}
 use Rattle.text.specs.Numbers.{both, bounds, low}
-use Rattle.text.specs.Scan.{Left, Part, State, digits, counted, below, grows, move, step, ends, Reached, by-byte}
-use Rattle.text.specs.Complete.{Stays}
-use Rattle.text.specs.Place.{Reaches, next-of, end-of}
+use Rattle.text.specs.Scan.{Left, Part, State, digits, counted, below, grows, move, step, ends, Reached, by-byte, Stays, Reaches, next-of, end-of}
 use Rattle.text.specs.Reader.{classAt, standsAt, growsAt, Skipped, Digit, Counts, Needs}
 use Rattle.text.specs.declared.Reading.{Reading}
 

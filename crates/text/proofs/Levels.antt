@@ -12,10 +12,10 @@ use Rattle.expression.specs.Expression.{Expr, term, one, range}
 use Rattle.expression.specs.Bytes.{bytes}
 use Rattle.text.specs.Classes.{classOf, value, pick, digit, space, amp, bar, lpar, rpar, lbra, rbra, dot}
 use Rattle.text.specs.Text.{Tokens, end, spaced, blank, whole}
-use Rattle.text.specs.Scan.{Frame, Left, Part, alone, from, upto, State, want, bound, digits, counted, dotted, done, fresh, opened, and-to, or-to, finish, shut, anded, ored, move, ends, at-first}
-use Rattle.text.specs.Place.{Reaches, said, fault}
+use Rattle.text.specs.Scan.{Frame, Left, Part, alone, from, upto, State, want, bound, digits, counted, dotted, done, fresh, opened, and-to, or-to, finish, shut, anded, ored, move, ends, at-first, Reaches}
+use Rattle.text.specs.Place.{said, fault}
 use Rattle.text.specs.Kept.{counted as Kept·counted, Kept}
-use Rattle.text.specs.Reader.{classAt, standsAt, At, Good, On, Holds, Beside, Puts, Inserts, Skipped, Counts, Needs, Signed, Dotted, Numbered, Ranged, Item, front, Ands, Ors, Whole}
+use Rattle.text.specs.Reader.{classAt, standsAt, At, Good, On, Holds, Beside, Appends, Inserts, Skipped, Counts, Needs, Signed, Dotted, Numbered, Ranged, Item, front, Ands, Ors, Whole}
 use Rattle.text.specs.declared.Reading.{Reading}
 use Rattle.text.specs.declared.Count.{Count}
 use Rattle.text.proofs.Laws.{class-not, stands-ok, stands-class, stands-not, like, alike, at-like, at-stop, takes, at-sign, needs-there}
@@ -108,7 +108,7 @@ module _ (s : List ℕ) where
 
   -- ---- a number
   module _ (g : Reading) (b : Bool) (eb : b ≡ standsAt s g digit) where
-    pub num-on : b ≡ true → (k : Count) → Counts s (g .at) k → (q : ℕ) → Skipped s (k .at) q → (r : Reading) → Puts (moved-to g q) (k .n) r → Numbered s g r
+    pub num-on : b ≡ true → (k : Count) → Counts s (g .at) k → (q : ℕ) → Skipped s (k .at) q → (r : Reading) → Appends (moved-to g q) (k .n) r → Numbered s g r
     num-on y k ct q sk r p = record {
       on = beside-on (record { on = omega (arith, ct .on, sk .on); was = λ z. z; good = record { within = sk .within; clear = λ _. sk .clear } }) (p .beside);
       n = k .n;

@@ -8,7 +8,7 @@ use native.Mathlib.Omega.{arith}
 use lib.ListN.{length, take, getD, set, length-set, length-append, List·getD-append}
 use lib.Seq.{getD-take, getD-append-add, getD-at, ext-getD, length-take-le, take-suc-set, getD-set-same, getD-set-other}
 use Rattle.text.specs.Kept.{counted, Kept, Moved}
-use Rattle.text.specs.Reader.{Puts, Inserts}
+use Rattle.text.specs.Reader.{Appends, Inserts}
 use Rattle.text.specs.declared.Reading.{Reading}
 
 -- ---- moving up: the places above i hold what stood one below
@@ -44,7 +44,7 @@ module _ (a : List ℕ) (start n i : ℕ) (b : List ℕ) (m : Moving a start n i
 
 -- ---- one byte more
 module _ (g : Reading) (x : ℕ) where
-  pub put-in : length (g .bytes) ≡ 48 → g .made < 48 → Puts g x (record { ok = g .ok; at = g .at; made = g .made + 1; bytes = set (g .bytes) (g .made) x })
+  pub put-in : length (g .bytes) ≡ 48 → g .made < 48 → Appends g x (record { ok = g .ok; at = g .at; made = g .made + 1; bytes = set (g .bytes) (g .made) x })
   put-in l u = record { beside = record { ok = refl; at = refl }; holds = λ w h ok. more w (h ok) }
     where
       more : (w : List ℕ) → Kept (g .made) (g .bytes) w → Kept (g .made + 1) (set (g .bytes) (g .made) x) (w ++ (x ∷ []))
@@ -57,7 +57,7 @@ module _ (g : Reading) (x : ℕ) where
 full : (n : ℕ) (b w z : List ℕ) → 48 ≤ n → length z ≡ length w + 1 → Kept n b w → Kept 49 b z
 full n b w z u len k = record { count = omega (arith, k .count); holds = λ q. absurd (omega arith) }
 
-pub put-over : (g : Reading) (x : ℕ) → 48 ≤ g .made → Puts g x (record { ok = g .ok; at = g .at; made = 49; bytes = g .bytes })
+pub put-over : (g : Reading) (x : ℕ) → 48 ≤ g .made → Appends g x (record { ok = g .ok; at = g .at; made = 49; bytes = g .bytes })
 put-over g x u = record { beside = record { ok = refl; at = refl }; holds = λ w h ok. full (g .made) (g .bytes) w (w ++ (x ∷ [])) u (length-append w (x ∷ [])) (h ok) }
 
 -- ---- a byte between

@@ -9,9 +9,9 @@ use borrow.Author.Tests.{ne-eqb}
 use Rattle.expression.specs.Expression.{Expr, term, one, range}
 use Rattle.expression.specs.Bytes.{bytes}
 use Rattle.text.specs.Classes.{classOf, value, digit, space, amp, bar, lpar, rpar, lbra, rbra, dot}
-use Rattle.text.specs.Text.{Token, number, sign, dots, Written, as-number, as-sign, as-dots, Tokens, end, spaced, next, Level, item, ands, ors, Reads, single, between, bracket, an-item, and, an-and, or, Says, Gives, blank, whole}
-use Rattle.text.specs.Numbers.{Built, starts, more, built}
-use Rattle.text.specs.Scan.{Frame, Left, Part, alone, from, upto, State, want, bound, digits, counted, dotted, done, fresh, opened, or-to, finish, anded, move, step, ends, go-on, scan}
+use Rattle.text.specs.Text.{Token, number, sign, dots, Written, as-number, as-sign, as-dots, Tokens, end, spaced, next, Level, item, ands, ors, Parses, single, between, bracket, an-item, and, an-and, or, Says, TextOf, blank, whole}
+use Rattle.text.specs.Numbers.{built}
+use Rattle.text.specs.Scan.{Frame, Left, Part, alone, from, upto, State, want, bound, digits, counted, dotted, done, fresh, opened, or-to, finish, anded, move, step, ends, go-on, scan, Built, starts, more, Stays}
 
 pub on : (t t′ : State) (x : ℕ) (r : List ℕ) → step t x ≡ some t′ → scan t (x ∷ r) ≡ scan t′ r
 unfolding scan
@@ -73,10 +73,6 @@ goes s′ h q = record { rest = s′; laid = h; same = q }
 and-then : {t t′ t″ : State} {s : List ℕ} {us vs : List Token} → Goes t s t′ us → ((s′ : List ℕ) → Tokens us s′ → Goes t′ s′ t″ vs) → Goes t s t″ vs
 and-then g k = let g′ = k (g .rest) (g .laid) in goes (g′ .rest) (g′ .laid) (g .same ∙ g′ .same)
 
--- at a space the state stays
-abbrev pub Stays : State → Type 0
-Stays t = (d : ℕ) → move t space d ≡ some t
-
 -- spaces before a token
 first : (t : State) → Stays t → {k : Token} {us : List Token} {s : List ℕ} → Tokens (k ∷ us) s
     → (u : List ℕ) × (s′ : List ℕ) × Written k u × Tokens us s′ × (scan t s ≡ scan t (u ++ s′))
@@ -135,7 +131,7 @@ Claim ors e us s = (o : List Frame) → Ored e o s us
 regroup : (ts : List Token) (k : Token) (vs us : List Token) {s : List ℕ} → Tokens ((ts ++ (k ∷ vs)) ++ us) s → Tokens (ts ++ (k ∷ (vs ++ us))) s
 regroup ts k vs us h = rw append-assoc at h
 
-runs : {k : Level} {ts : List Token} {e : Expr} → Reads k ts e → (us : List Token) → After us → (s : List ℕ) → Tokens (ts ++ us) s → Claim k e us s
+runs : {k : Level} {ts : List Token} {e : Expr} → Parses k ts e → (us : List Token) → After us → (s : List ℕ) → Tokens (ts ++ us) s → Claim k e us s
 unfolding move
 runs (single {n = n}) us a s h = λ l.
     let g = a-number alone l (want l) (λ d. refl) (λ d. refl) n h (apart us a) in
@@ -188,7 +184,7 @@ blank-or-whole : {s : List ℕ} {e : Expr} → Tokens [] s → Says s e → ⊥
 blank-or-whole h w = let p = blank-says-nothing h in let q = complete w in let z : _≡_ {A = ℕ} 0 1 = cc in omega arith
 
 -- a text gives one string of bytes
-pub one-reading : {s b c : List ℕ} → Gives s b → Gives s c → b ≡ c
+pub one-reading : {s b c : List ℕ} → TextOf s b → TextOf s c → b ≡ c
 one-reading (blank h) (blank k) = refl
 one-reading (blank h) (whole w) = absurd (blank-or-whole h w)
 one-reading (whole w) (blank h) = absurd (blank-or-whole h w)

@@ -1,4 +1,4 @@
--- The bytes that a text makes, as the reader keeps them: their number up to 49, and the bytes themselves while they fit.
+-- The bytes that a text makes, as the reader keeps them: their number up to 49, and the bytes while they fit. A device of the proofs.
 use mathlib.Core.Path.{_≡_}
 use mathlib.Core.List.{List}
 use Prim.Native.Nat.{ℕ, _+_, _<_, _≤_, min}

@@ -8,7 +8,7 @@ use lib.Dec.{leb, ltb, eqb, lit<}
 use borrow.Author.Tests.{lt-ltb, leb-true, ltb-true, eqb-true}
 use Rattle.text.specs.Classes.{classOf, value, pick, digit, space, amp, bar, lpar, rpar, lbra, rbra, dot, other}
 use Rattle.text.specs.Text.{Number, one-digit, two-digits}
-use Rattle.text.specs.Scan.{below, grows}
+use Rattle.text.specs.Scan.{below, grows, Built, starts, more}
 
 pub both : (a b : Bool) → (a && b) ≡ true → (a ≡ true) × (b ≡ true)
 both true b e = (refl, e)
@@ -32,12 +32,7 @@ pub low : (x : ℕ) → classOf x ≡ digit → value x < 10
 unfolding value
 low x e = let b = bounds x e in omega arith
 
--- ---- a number digit by digit
-pub data Built : ℕ → List ℕ → Type 0 where
-  starts : (x : ℕ) → classOf x ≡ digit → Built (value x) (x ∷ [])
-  more : {n : ℕ} {u : List ℕ} → Built n u → (x : ℕ) → grows n (classOf x) (value x) ≡ true → Built (10 * n + value x) (u ++ (x ∷ []))
-
--- every number is built so
+-- every number is built digit by digit
 pub built : {n : ℕ} {u : List ℕ} → Number n u → Built n u
 built (one-digit {x = x} h) = starts x h
 built (two-digits {x = x} {y = y} h k j) =

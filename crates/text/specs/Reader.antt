@@ -1,4 +1,5 @@
 -- What the reader's functions say to each other: each has taken the scan from one state to another, and kept the bytes that it made.
+-- A device of the proofs.
 use mathlib.Core.Path.{_≡_}
 use mathlib.Core.Bool.{Bool, true, false, _&&_}
 use mathlib.Core.Option.{Option, none, some}
@@ -10,10 +11,8 @@ use Rattle.answer.specs.Faults.{FaultAt}
 use Rattle.expression.specs.Expression.{Expr, term, range}
 use Rattle.expression.specs.Bytes.{bytes}
 use Rattle.text.specs.Classes.{classOf, value, pick, digit, space, amp, bar}
-use Rattle.text.specs.Text.{Gives, Legal}
-use Rattle.text.specs.Scan.{Frame, Left, Part, alone, from, upto, State, want, bound, digits, counted, done, or-to, finish, grows, step, ends}
-use Rattle.text.specs.Complete.{Stays}
-use Rattle.text.specs.Place.{Reaches}
+use Rattle.text.specs.Text.{TextOf, Legal}
+use Rattle.text.specs.Scan.{Frame, Left, Part, alone, from, upto, State, want, bound, digits, counted, done, or-to, finish, grows, step, ends, Stays, Reaches}
 use Rattle.text.specs.Kept.{counted as Kept·counted, Kept}
 use Rattle.text.specs.declared.Reading.{Reading}
 use Rattle.text.specs.declared.Count.{Count}
@@ -53,7 +52,8 @@ pub record Beside (g r : Reading) : Type 0 where
   pub ok : r .ok ≡ g .ok
   pub at : r .at ≡ g .at
 
-pub record Puts (g : Reading) (x : ℕ) (r : Reading) : Type 0 where
+-- x after all bytes made
+pub record Appends (g : Reading) (x : ℕ) (r : Reading) : Type 0 where
   pub beside : Beside g r
   pub holds : (w : List ℕ) → Holds g w → Holds r (w ++ (x ∷ []))
 
@@ -138,5 +138,5 @@ pub record Ors (s : List ℕ) (start : ℕ) (g r : Reading) : Type 0 where
 
 -- the bytes of a legal text, or the place of the first fault
 pub record Whole (s : List ℕ) (r : Reading) : Type 0 where
-  pub legal : r .ok ≡ true → (b : List ℕ) × Gives s b × Kept (r .made) (r .bytes) b
+  pub legal : r .ok ≡ true → (b : List ℕ) × TextOf s b × Kept (r .made) (r .bytes) b
   pub wrong : r .ok ≡ false → FaultAt Legal s (r .at)

@@ -9,7 +9,7 @@ use lib.Dec.{eqb}
 use borrow.Author.Tests.{eqb-true}
 use Rattle.expression.specs.Expression.{Expr, term, one}
 use Rattle.text.specs.Classes.{classOf, value, pick, digit, space, amp, bar, lpar, rpar, lbra, rbra, dot}
-use Rattle.text.specs.Text.{Number, one-digit, Token, number, sign, dots, Written, as-number, as-sign, as-dots, Tokens, end, spaced, next, Level, item, ands, ors, Reads, single, between, bracket, an-item, and, an-and, or, Says}
+use Rattle.text.specs.Text.{Number, one-digit, Token, number, sign, dots, Written, as-number, as-sign, as-dots, Tokens, end, spaced, next, Level, item, ands, ors, Parses, single, between, bracket, an-item, and, an-and, or, Says}
 use Rattle.text.specs.Numbers.{longer}
 use Rattle.text.specs.Scan.{Frame, Left, Part, alone, from, upto, State, want, bound, digits, counted, dotted, done, fresh, and-to, or-to, shut, anded, ored, afterItem, afterNumber, grows, move, step, itemEnd, numberEnd, ends, Reached, at-first, by-byte}
 
@@ -27,13 +27,13 @@ token-more (next e h) k = rw append-assoc (next e (token-more h k))
 -- ---- what was read before: nothing, or what c joins to what comes
 data Before (k : Level) (c : ℕ) : Option Expr → List Token → Type 0 where
   nothing : Before k c none []
-  joined : {ts : List Token} {e : Expr} → Reads k ts e → Before k c (some e) (ts ++ (sign c ∷ []))
+  joined : {ts : List Token} {e : Expr} → Parses k ts e → Before k c (some e) (ts ++ (sign c ∷ []))
 
-ands-of : {a : Option Expr} {e : Expr} {ts us : List Token} → Before ands amp a ts → Reads item us e → Reads ands (ts ++ us) (and-to a e)
+ands-of : {a : Option Expr} {e : Expr} {ts us : List Token} → Before ands amp a ts → Parses item us e → Parses ands (ts ++ us) (and-to a e)
 ands-of nothing r = an-item r
 ands-of (joined q) r = rw append-assoc (and q r)
 
-ors-of : {b : Option Expr} {e : Expr} {ts us : List Token} → Before ors bar b ts → Reads ands us e → Reads ors (ts ++ us) (or-to b e)
+ors-of : {b : Option Expr} {e : Expr} {ts us : List Token} → Before ors bar b ts → Parses ands us e → Parses ors (ts ++ us) (or-to b e)
 ors-of nothing r = an-and r
 ors-of (joined q) r = rw append-assoc (or q r)
 
@@ -59,10 +59,10 @@ record Does (e : Expr) (b : Option Expr) (o : List Frame) (ts : List Token) : Ty
   us : List Token
   outer : Outer o t0
   bars : Before ors bar b t1
-  reads : Reads ands us e
+  reads : Parses ands us e
   is : ts ≡ t0 ++ (t1 ++ us)
 
-finished : {l : Left} {e : Expr} {ts us : List Token} → Wants l ts → Reads item us e → Does (and-to (l .amps) e) (l .bars) (l .outer) (ts ++ us)
+finished : {l : Left} {e : Expr} {ts us : List Token} → Wants l ts → Parses item us e → Does (and-to (l .amps) e) (l .bars) (l .outer) (ts ++ us)
 finished {us = us} w r = record { t0 = w .t0; t1 = w .t1; us = w .t2 ++ us; outer = w .outer; bars = w .bars; reads = ands-of (w .amps) r; is = rw (w .is) (simp append-assoc) }
 
 -- the tokens of an item of which the part p is to come
@@ -133,7 +133,7 @@ module _ (x : ℕ) (u : List ℕ) (t : State) where
   on-bar : {ts : List Token} (e : Expr) (b : Option Expr) (o : List Frame) → Does e b o ts → Wants (ored e b o) (ts ++ (sign bar ∷ []))
   on-bar e b o d = record { t0 = d .t0; t1 = (d .t1 ++ d .us) ++ (sign bar ∷ []); t2 = []; outer = d .outer; bars = joined (ors-of (d .bars) (d .reads)); amps = nothing; is = rw (d .is) (simp (append-assoc, append-nil)) }
 
-  on-shut : (e : Expr) {o : List Frame} {t0 us : List Token} → Outer o t0 → Reads ors us e → Tokens ((t0 ++ us) ++ (sign rpar ∷ [])) u′ → shut e o ≡ some t → Means t u′
+  on-shut : (e : Expr) {o : List Frame} {t0 us : List Token} → Outer o t0 → Parses ors us e → Tokens ((t0 ++ us) ++ (sign rpar ∷ [])) u′ → shut e o ≡ some t → Means t u′
   on-shut e outermost r h q = never q
   on-shut e {us = us} (within {f = f} {t0 = t0} {t1 = t1} {t2 = t2} o b a) r h q = to u′ q (
     (t0 ++ (t1 ++ t2)) ++ (sign lpar ∷ (us ++ (sign rpar ∷ []))),
@@ -208,8 +208,8 @@ module _ (u : List ℕ) (s : Expr) where
   not-there : {P : Type 0} → _≡_ {A = Option Expr} none (some s) → P
   not-there e = let z : _≡_ {A = ℕ} 0 1 = cc in absurd (omega arith)
 
-  outer-end : (e : Expr) (b : Option Expr) {o : List Frame} {t0 us : List Token} → Outer o t0 → Reads ors us (or-to b e) → Tokens (t0 ++ us) u → itemEnd e b o ≡ some s → Says u s
-  outer-end e b {us = us} outermost r h q = let p : or-to b e ≡ s = cc in (us, h, subst (Reads ors us) p r)
+  outer-end : (e : Expr) (b : Option Expr) {o : List Frame} {t0 us : List Token} → Outer o t0 → Parses ors us (or-to b e) → Tokens (t0 ++ us) u → itemEnd e b o ≡ some s → Says u s
+  outer-end e b {us = us} outermost r h q = let p : or-to b e ≡ s = cc in (us, h, subst (Parses ors us) p r)
   outer-end e b (within o c a) r h q = not-there q
 
   item-end : (e : Expr) (b : Option Expr) (o : List Frame) (ts : List Token) → Tokens ts u → Does e b o ts → itemEnd e b o ≡ some s → Says u s
