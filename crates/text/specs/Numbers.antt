@@ -17,7 +17,16 @@ both false b e = absurd (false≢true e)
 -- a digit is one of 48 to 57, so it counts 0 to 9
 pub bounds : (x : ℕ) → classOf x ≡ digit → (48 ≤ x) × (x ≤ 57)
 unfolding classOf
-bounds x e = let w = both (leb 48 x) (leb x 57) (go (leb 48 x && leb x 57) _ (pos (eqb x 32) space _ (lit< tt) (pos (eqb x 38) amp _ (lit< tt) (pos (eqb x 124) bar _ (lit< tt) (pos (eqb x 40) lpar _ (lit< tt) (pos (eqb x 41) rpar _ (lit< tt) (pos (eqb x 91) lbra _ (lit< tt) (pos (eqb x 93) rbra _ (lit< tt) (pos (eqb x 46) dot other (lit< tt) (lit< tt))))))))) e) in (leb-true _ _ (w .0), leb-true _ _ (w .1))
+bounds x e =
+    let w = both (leb 48 x) (leb x 57)
+    (go (leb 48 x && leb x 57) _
+    (pos (eqb x 32) space _ (lit< tt)
+    (pos (eqb x 38) amp _ (lit< tt)
+    (pos (eqb x 124) bar _ (lit< tt)
+    (pos (eqb x 40) lpar _ (lit< tt)
+    (pos (eqb x 41) rpar _ (lit< tt)
+    (pos (eqb x 91) lbra _ (lit< tt) (pos (eqb x 93) rbra _ (lit< tt) (pos (eqb x 46) dot other (lit< tt) (lit< tt))))))))) e) in
+    (leb-true _ _ (w .0), leb-true _ _ (w .1))
   where
     -- no other class is 0
     pos : (b : Bool) (m n : ℕ) → 0 < m → 0 < n → 0 < pick b m n

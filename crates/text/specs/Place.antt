@@ -12,7 +12,8 @@ use Rattle.expression.specs.Expression.{Expr}
 use Rattle.expression.specs.Bytes.{bytes}
 use Rattle.text.specs.Classes.{classOf, value, space}
 use Rattle.text.specs.Text.{Tokens, end, spaced, Says, TextOf, blank, whole, Legal}
-use Rattle.text.specs.Scan.{Frame, Left, Part, alone, from, upto, State, want, bound, digits, counted, dotted, done, fresh, move, step, ends, go-on, scan, Reached, at-first, by-byte, Reaches}
+use Rattle.text.specs.Scan.{Frame, Left, Part, alone, from, upto, State, want, bound, digits, counted, dotted, done}
+use Rattle.text.specs.Scan.{fresh, move, step, ends, go-on, scan, Reached, at-first, by-byte, Reaches}
 use Rattle.text.specs.Complete.{on, complete}
 use Rattle.text.specs.Sound.{sound}
 
@@ -49,7 +50,8 @@ unfolding move classOf value
 counted-lives alone n l = alone-lives n (l .bars) (l .amps) (l .outer)
 counted-lives (upto s i) n l = upto-lives s i n l
 counted-lives (from s) n l =
-    further _ (dotted s n l) 46 refl (further _ (bound (upto s n) l) 46 refl (further _ (digits (upto s n) 0 l) 48 refl (digits-live _ 0 l (upto-lives s n 0 l))))
+    further _ (dotted s n l) 46 refl
+    (further _ (bound (upto s n) l) 46 refl (further _ (digits (upto s n) 0 l) 48 refl (digits-live _ 0 l (upto-lives s n 0 l))))
 
 bound-lives : (p : Part) (l : Left) → Lives (bound p l)
 unfolding move classOf value
@@ -124,5 +126,7 @@ module _ (s : List ℕ) (k : ℕ) where
 
       at-byte : k < length s → (rest : List ℕ) → Legal (take (k + 1) s ++ rest) → ⊥
       at-byte q rest (b, g) =
-          let e : take (k + 1) s ++ rest ≡ take k s ++ (getD s k 0 ∷ rest) = ap (λ (z : List ℕ). z ++ rest) (ap (λ (z : ℕ). take z s) (add-one k) ∙ take-suc s k 0 q) ∙ append-assoc (take k s) (getD s k 0 ∷ []) rest in
+          let e : take (k + 1) s ++ rest ≡ take k s ++ (getD s k 0 ∷ rest) =
+          ap (λ (z : List ℕ). z ++ rest) (ap (λ (z : ℕ). take z s) (add-one k) ∙ take-suc s k 0 q)
+          ∙ append-assoc (take k s) (getD s k 0 ∷ []) rest in
           stops (getD s k 0) rest (r .byte q) (subst (λ (z : List ℕ). TextOf z b) e g)

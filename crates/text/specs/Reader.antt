@@ -12,7 +12,8 @@ use Rattle.expression.specs.Expression.{Expr, term, range}
 use Rattle.expression.specs.Bytes.{bytes}
 use Rattle.text.specs.Classes.{classOf, value, pick, digit, space, amp, bar}
 use Rattle.text.specs.Text.{TextOf, Legal}
-use Rattle.text.specs.Scan.{Frame, Left, Part, alone, from, upto, State, want, bound, digits, counted, done, or-to, finish, grows, step, ends, Stays, Reaches}
+use Rattle.text.specs.Scan.{Frame, Left, Part, alone, from, upto, State, want, bound, digits}
+use Rattle.text.specs.Scan.{counted, done, or-to, finish, grows, step, ends, Stays, Reaches}
 use Rattle.text.specs.Kept.{counted as Kept·counted, Kept}
 use Rattle.text.specs.declared.Reading.{Reading}
 use Rattle.text.specs.declared.Count.{Count}
@@ -76,7 +77,9 @@ pub record Digit (s : List ℕ) (p d : ℕ) : Type 0 where
 pub record Counts (s : List ℕ) (at : ℕ) (r : Count) : Type 0 where
   pub on : at < r .at
   pub within : r .at ≤ length s
-  pub moves : (t : State) (p : Part) (l : Left) → step t (getD s at 0) ≡ some (digits p (value (getD s at 0)) l) → Reaches s at (some t) → Reaches s (r .at) (some (counted p (r .n) l))
+  pub moves : (t : State) (p : Part) (l : Left)
+      → step t (getD s at 0) ≡ some (digits p (value (getD s at 0)) l) → Reaches s at (some t)
+      → Reaches s (r .at) (some (counted p (r .n) l))
 
 -- at the place k the scan goes on from t to t′ by a byte of class c, and by no other
 pub record Needs (s : List ℕ) (k c : ℕ) (t t′ : State) : Type 0 where
@@ -97,7 +100,9 @@ pub record Dotted (s : List ℕ) (g r : Reading) : Type 0 where
 pub record Numbered (s : List ℕ) (g r : Reading) : Type 0 where
   pub on : On s g r
   pub n : ℕ
-  pub moves : (t : State) (p : Part) (l : Left) → (g .ok ≡ true → Needs s (g .at) digit t (digits p (value (getD s (g .at) 0)) l)) → At s g t → At s r (counted p n l)
+  pub moves : (t : State) (p : Part) (l : Left)
+      → (g .ok ≡ true → Needs s (g .at) digit t (digits p (value (getD s (g .at) 0)) l))
+      → At s g t → At s r (counted p n l)
   pub holds : (w : List ℕ) → Holds g w → Holds r (w ++ (n ∷ []))
 
 pub record Ranged (s : List ℕ) (g r : Reading) : Type 0 where

@@ -19,7 +19,8 @@ longestText = 512
 abbrev pub TextRight : List ℕ → Type 0
 TextRight s = (length s ≤ longestText) × Legal s
 
--- place for 18: text over 512 bytes gives 512; else the first byte where no legal text of any length begins with the bytes up to and with it; else the text's length
+-- place for 18: text over 512 bytes gives 512; else the first byte where no legal text of any
+-- length begins with the bytes up to and with it; else the text's length
 abbrev pub TextWrongAt : List ℕ → ℕ → Type 0
 TextWrongAt s k = ((longestText < length s) × (k ≡ longestText)) ⊎ ((length s ≤ longestText) × FaultAt Legal s k)
 

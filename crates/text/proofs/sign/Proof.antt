@@ -13,7 +13,10 @@ add-skip : tie.Need-add-skip
 add-skip c = search needs
 
 skip-requires : tie.Need-skip-requires
-skip-requires c κs = let h = stands-in (c .before .before .before .before .before .args .s .now) (c .before .before .before .before .before .args .g) _ _ (c .before .before .stands .ensures) (c .before .if1 .taken) in (omega arith, c .before .before .before .before .before .pre .1)
+skip-requires c κs =
+    let c₂ = c .before .before in
+    let c₅ = c₂ .before .before .before in
+    let h = stands-in (c₅ .args .s .now) (c₅ .args .g) _ _ (c₂ .stands .ensures) (c .before .if1 .taken) in (omega arith, c₅ .pre .1)
 
 returns : tie.Need-returns
 returns c = sign-past _ _ _ _ (c .before .before .before .stands .ensures) (c .before .before .if1 .taken) _ (c .skip .ensures)
