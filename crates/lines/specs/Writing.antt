@@ -1,4 +1,4 @@
--- What the functions that write say to each other.
+-- What the functions that write say to each other. A device of the proofs.
 use mathlib.Core.Path.{_≡_}
 use mathlib.Core.List.{List, [], _∷_, _++_}
 use Prim.Native.Nat.{ℕ, _+_, _≤_}

@@ -188,10 +188,10 @@ module _ (s : List ℕ) where
       -- a number with no range after it
       as-item : u ≡ false → (l : Left) → At s a (counted alone (A .n) l) → At s a (finish l (term (one (A .n))))
       as-item z l h = at-like s (a .ok) (a .at) (counted alone (A .n) l) (finish l (term (one (A .n))))
-          (λ ok. alike s (a .at) _ _
-          (λ k.
-          (unfold move in rw (class-not s (a .at) space k (A .on .good .clear ok), class-not s (a .at) lbra k (stands-not s a lbra u eu z ok))))
-          (λ _. (unfold ends in refl))) h
+          (λ ok.
+          let p = A .on .good .clear ok in
+          let q = stands-not s a lbra u eu z ok in
+          alike s (a .at) _ _ (λ k. (unfold move in rw (class-not s (a .at) space k p, class-not s (a .at) lbra k q))) (λ _. (unfold ends in refl))) h
 
       pub one-number : u ≡ false → (r : Reading) → Inserts a (g .made) 1 r → Item s g r
       one-number z r p = record {
@@ -242,7 +242,8 @@ module _ (s : List ℕ) where
       no-amp = R .no-amp;
       e = λ x. R .e (some (and-to x (A .e)));
       moves = λ z x o h. R .moves z (some (and-to x (A .e))) o (beside-at (D .beside) (want (anded (and-to x (A .e)) z o))
-          (C .moves (done (and-to x (A .e)) z o) (want (anded (and-to x (A .e)) z o)) (λ ok. needs-there s (a .at) amp _ _ (stands-class s a amp b eb y) (λ _. (unfold move in refl))) (λ _. (unfold move in refl))
+          (C .moves (done (and-to x (A .e)) z o) (want (anded (and-to x (A .e)) z o))
+          (λ ok. needs-there s (a .at) amp _ _ (stands-class s a amp b eb y) (λ _. (unfold move in refl))) (λ _. (unfold move in refl))
           (A .moves (record { bars = z; amps = x; outer = o }) h)));
       holds = λ x v f h. R .holds (some (and-to x (A .e))) v f (D .holds v (bytes (and-to x (A .e))) f (C .holds _ (with-left x v h)));
     }
@@ -272,7 +273,8 @@ module _ (s : List ℕ) where
       b = λ x. R .b (some (or-to x (A .e none)));
       e = λ x. R .e (some (or-to x (A .e none)));
       moves = λ x o h. R .moves (some (or-to x (A .e none))) o (beside-at (D .beside) (want (ored (A .e none) x o))
-          (C .moves (done (A .e none) x o) (want (ored (A .e none) x o)) (λ ok. needs-there s (a .at) bar _ _ (stands-class s a bar b eb y) (λ _. (unfold move in refl))) (λ _. (unfold move in refl))
+          (C .moves (done (A .e none) x o) (want (ored (A .e none) x o))
+          (λ ok. needs-there s (a .at) bar _ _ (stands-class s a bar b eb y) (λ _. (unfold move in refl))) (λ _. (unfold move in refl))
           (A .moves x none o h)));
       holds = λ x v f h. R .holds (some (or-to x (A .e none))) v f (D .holds v (bytes (or-to x (A .e none))) f (C .holds _ (with-left-or x v h)));
     }
@@ -305,8 +307,7 @@ module _ (s : List ℕ) where
       → (ok ≡ true → classAt s k bar ≡ false)
       → Reaches s k (pick ok (some (done e b [])) none) → Reaches s k none
   left-over true k e b h x y z r =
-      like s k (some (done e b [])) none
-      (λ _.
+      like s k (some (done e b [])) none (λ _.
       (unfold move in rw (class-not s k space h (x refl), class-not s k amp h (y refl), class-not s k bar h (z refl))
       (go (eqb (classOf (getD s k 0)) rpar)))) (λ q. absurd (omega arith)) r
     where

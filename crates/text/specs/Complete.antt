@@ -148,12 +148,10 @@ runs (single {n = n}) us a s h = λ l.
 runs (between {s = x} {i = i} {j = j}) us a s h = λ l. a-range x i j l h
 runs (bracket {ts = ts} {e = e} r) us a s h = λ l.
     and-then (a-sign (want l) (want (opened l)) lpar (λ d. refl) (λ d. refl) h) λ s h.
-    let w =
-    runs r (sign rpar ∷ us) (lit< tt, λ q. absurd (omega arith)) s (regroup ts (sign rpar) [] us h)
-    (record { bars = l .bars; amps = l .amps } ∷ l .outer) in
+    let o : List Frame = record { bars = l .bars; amps = l .amps } ∷ l .outer in
+    let w = runs r (sign rpar ∷ us) (lit< tt, λ q. absurd (omega arith)) s (regroup ts (sign rpar) [] us h) o in
     and-then (w .runs-to) λ s h.
-    a-sign (done (w .a) (w .b) (record { bars = l .bars; amps = l .amps } ∷ l .outer)) (finish l e) rpar (λ d. refl)
-    (λ d. (ap (λ (x : Expr). some (finish l x)) (w .is))) h
+    a-sign (done (w .a) (w .b) o) (finish l e) rpar (λ d. refl) (λ d. (ap (λ (x : Expr). some (finish l x)) (w .is))) h
 runs (an-item r) us a s h = λ b o. runs r us a s h (record { bars = b; amps = none; outer = o })
 runs (and {ts = ts} {us = vs} {a = x} {b = y} r q) us a s h = λ b o.
     and-then (runs r (sign amp ∷ (vs ++ us)) (lit< tt, λ q. absurd (omega arith)) s (regroup ts (sign amp) vs us h) b o) λ s h.
@@ -167,9 +165,8 @@ runs (or {ts = ts} {us = vs} {a = x} {b = y} r q) us a s h = λ o.
       a = y;
       is = refl;
       runs-to = and-then (w .runs-to) λ s h.
-          and-then
-          (a-sign (done (w .a) (w .b) o) (want (record { bars = some x; amps = none; outer = o })) bar (λ d. refl)
-          (λ d. (ap (λ (z : Expr). some (want (record { bars = some z; amps = none; outer = o }))) (w .is))) h) λ s h.
+          let f : Expr → State = λ z. want (record { bars = some z; amps = none; outer = o }) in
+          and-then (a-sign (done (w .a) (w .b) o) (f x) bar (λ d. refl) (λ d. (ap (λ (z : Expr). some (f z)) (w .is))) h) λ s h.
           runs q us a s h (some x) o;
     }
 

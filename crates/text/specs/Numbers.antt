@@ -18,14 +18,15 @@ both false b e = absurd (false≢true e)
 pub bounds : (x : ℕ) → classOf x ≡ digit → (48 ≤ x) × (x ≤ 57)
 unfolding classOf
 bounds x e =
-    let w = both (leb 48 x) (leb x 57)
-    (go (leb 48 x && leb x 57) _
+    let w = both (leb 48 x) (leb x 57) (go (leb 48 x && leb x 57) _
     (pos (eqb x 32) space _ (lit< tt)
     (pos (eqb x 38) amp _ (lit< tt)
     (pos (eqb x 124) bar _ (lit< tt)
     (pos (eqb x 40) lpar _ (lit< tt)
     (pos (eqb x 41) rpar _ (lit< tt)
-    (pos (eqb x 91) lbra _ (lit< tt) (pos (eqb x 93) rbra _ (lit< tt) (pos (eqb x 46) dot other (lit< tt) (lit< tt))))))))) e) in
+    (pos (eqb x 91) lbra _ (lit< tt)
+    (pos (eqb x 93) rbra _ (lit< tt)
+    (pos (eqb x 46) dot other (lit< tt) (lit< tt))))))))) e) in
     (leb-true _ _ (w .0), leb-true _ _ (w .1))
   where
     -- no other class is 0

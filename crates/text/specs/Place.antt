@@ -126,7 +126,6 @@ module _ (s : List ℕ) (k : ℕ) where
 
       at-byte : k < length s → (rest : List ℕ) → Legal (take (k + 1) s ++ rest) → ⊥
       at-byte q rest (b, g) =
-          let e : take (k + 1) s ++ rest ≡ take k s ++ (getD s k 0 ∷ rest) =
-          ap (λ (z : List ℕ). z ++ rest) (ap (λ (z : ℕ). take z s) (add-one k) ∙ take-suc s k 0 q)
-          ∙ append-assoc (take k s) (getD s k 0 ∷ []) rest in
+          let d : take (k + 1) s ≡ take k s ++ (getD s k 0 ∷ []) = ap (λ (z : ℕ). take z s) (add-one k) ∙ take-suc s k 0 q in
+          let e = ap (λ (z : List ℕ). z ++ rest) d ∙ append-assoc (take k s) (getD s k 0 ∷ []) rest in
           stops (getD s k 0) rest (r .byte q) (subst (λ (z : List ℕ). TextOf z b) e g)

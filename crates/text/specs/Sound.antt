@@ -174,17 +174,18 @@ module _ (x : ℕ) (u : List ℕ) (t : State) where
   on-item e b o ts h d q =
       by-pick (eqb (classOf x) amp) q (λ c q. to u′ q (record { ts = ts ++ (sign amp ∷ []); laid = a-sign amp c h; wants = on-amp e b o d })) λ q.
       by-pick (eqb (classOf x) bar) q (λ c q. to u′ q (record { ts = ts ++ (sign bar ∷ []); laid = a-sign bar c h; wants = on-bar e b o d })) λ q.
-      by-pick (eqb (classOf x) rpar) q
-      (λ c q. on-shut (or-to b e) (d .outer) (ors-of (d .bars) (d .reads))
-      (subst (λ (z : List Token). Tokens (z ++ (sign rpar ∷ [])) u′) (d .is) (a-sign rpar c h)) q) never
+      by-pick (eqb (classOf x) rpar) q (λ c q.
+      let h′ = subst (λ (z : List Token). Tokens (z ++ (sign rpar ∷ [])) u′) (d .is) (a-sign rpar c h) in
+      on-shut (or-to b e) (d .outer) (ors-of (d .bars) (d .reads)) h′ q) never
 
   -- after a number
   on-number : (p : Part) (n : ℕ) (l : Left) → Counted p n l u → afterNumber p n l (classOf x) ≡ some t → Means t u′
   on-number alone n l h q =
-      by-pick (eqb (classOf x) lbra) q
-      (λ c q. to u′ q
-      (record
-      { ts = h .ts; laid = subst (λ (z : List Token). Tokens z u′) (append-assoc (h .ts) _ _) (a-sign lbra c (h .laid)); wants = h .wants })) λ q.
+      by-pick (eqb (classOf x) lbra) q (λ c q. to u′ q (record {
+        ts = h .ts;
+        laid = subst (λ (z : List Token). Tokens z u′) (append-assoc (h .ts) _ _) (a-sign lbra c (h .laid));
+        wants = h .wants;
+      })) λ q.
       on-item (and-to (l .amps) (term (one n))) (l .bars) (l .outer) (h .ts ++ (number n ∷ [])) (h .laid) (finished (h .wants) single) q
   on-number (from s) n l h q =
       by-pick (eqb (classOf x) dot) q (λ c q. to u′ q (record { v = u; x = x; number-before = h; class = eqb-true _ dot c; is = refl })) never
@@ -215,25 +216,22 @@ module _ (x : ℕ) (u : List ℕ) (t : State) where
       by-pick (eqb (classOf x) lpar) q (λ c q. to u′ q (let w = h .wants in record {
         ts = h .ts ++ (sign lpar ∷ []);
         laid = a-sign lpar c (h .laid);
-        wants =
-            record {
-              t0 = w .t0 ++ (w .t1 ++ (w .t2 ++ (sign lpar ∷ [])));
-              t1 = [];
-              t2 = [];
-              outer = within (w .outer) (w .bars) (w .amps);
-              bars = nothing;
-              amps = nothing;
-              is = rw (w .is) (simp (append-assoc, append-nil));
-            };
+        wants = record {
+          t0 = w .t0 ++ (w .t1 ++ (w .t2 ++ (sign lpar ∷ [])));
+          t1 = [];
+          t2 = [];
+          outer = within (w .outer) (w .bars) (w .amps);
+          bars = nothing;
+          amps = nothing;
+          is = rw (w .is) (simp (append-assoc, append-nil));
+        };
       })) λ q.
       by-pick (eqb (classOf x) digit) q (λ c q. to u′ q (a-digit alone l h c)) never
   step-sound (bound p l) h q =
       by-pick (eqb (classOf x) space) q (λ c q. to u′ q (record { ts = h .ts; laid = a-space c (h .laid); wants = h .wants })) λ q.
       by-pick (eqb (classOf x) digit) q (λ c q. to u′ q (a-digit p l h c)) never
   step-sound (digits p n l) h q =
-      by-pick (grows n (classOf x) (value x)) q
-      (λ c q. to u′ q
-      (record {
+      by-pick (grows n (classOf x) (value x)) q (λ c q. to u′ q (record {
         v = h .v;
         w = h .w ++ (x ∷ []);
         wanting = h .wanting;

@@ -1,4 +1,4 @@
--- What the program prints for a line of its input.
+-- What the program prints for a line of its input. Definitions only.
 use mathlib.Core.Path.{_≡_}
 use mathlib.Core.Bool.{cond}
 use mathlib.Core.List.{List, [], _++_}
