@@ -36,7 +36,8 @@ module _ (s : State) (g : Grown) (t : TreeExamined (s .tree) g) where
               slots = w .1;
             })),
         λ w.
-            let tree : TreeFine (s .tree) = record { room = w .room .parents; is-tree = w .tree; root = w .unused-zero .root; past = w .unused-zero .parents } in
+            let z = w .unused-zero in
+            let tree : TreeFine (s .tree) = record { room = w .room .parents; is-tree = w .tree; root = z .root; past = z .parents } in
             let f = well-formed-fine s _ (t .levels tree .depth) w in
             let roles = subst Roles (sym (t .count tree)) (f .roles) in
             let files = subst Files (sym (t .count tree)) (f .files) in

@@ -11,7 +11,8 @@ ghost use Prim.Native.Nat.{_+_, _<_, _≤_};
 ghost use lib.ListN.{length};
 ghost use Rattle.expression.specs.Bytes.{longest};
 ghost use Rattle.tree.specs.Tree.{IsTree};
-ghost use Rattle.policy.specs.State.{IsMode, mostRoles, filePlaces, senses, parts, rolePlace, filePlace, noRole, noFile, noLevels, freshState, Free, By, heldIn, slotWith, roleIn, putPair};
+ghost use Rattle.policy.specs.State.{IsMode, mostRoles, filePlaces, senses, parts, rolePlace, filePlace, noRole, noFile};
+ghost use Rattle.policy.specs.State.{noLevels, freshState, Free, By, heldIn, slotWith, roleIn, putPair};
 ghost use Rattle.policy.specs.WellFormed.{TreeFine, Examines};
 ghost use Rattle.policy.specs.Fine.{roleShelves, fileShelves, OneIs, SlotIs, SlotsAre, RoleHeld, TreeExamined};
 
@@ -93,7 +94,8 @@ pub struct State {
     pub slots: [u8; SLOTS],
 }
 
-// What the examination of a state finds: whether it is well formed, and the levels of its tree. With it all that a request needs of the state, so that the state is gone through once: the tree, the counts, the slots, the role that a slot holds, and a file with its number.
+// What the examination of a state finds: whether it is well formed, and the levels of its tree. With it all that a request needs
+// of the state, so that the state is gone through once: the tree, the counts, the slots, the role that a slot holds, and a file with its number.
 pub struct Examined {
     pub ok: bool,
     pub tree: Tree,
@@ -314,7 +316,8 @@ impl State {
         }
     }
 
-    // Whether the state is well formed; with all that a request needs of it, the role that a slot holds and a file among it. Both walks stand here, since an array that is handed on is copied.
+    // Whether the state is well formed; with all that a request needs of it, the role that a slot holds and a
+    // file among it. Both walks stand here, since an array that is handed on is copied.
     pub fn examine(self, slot: usize, file: usize) -> Examined
         ensures { λ r. ⌜ Examines self slot file r ⌝ }
     {

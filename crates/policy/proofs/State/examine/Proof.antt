@@ -1,4 +1,5 @@
--- `policy::State::examine` meets its contract: a flag says of every role passed that it is fine or zero, another of every file; with the tree, the counts and the slots they make the test. The measures are what is left of each. Assumes nothing.
+-- `policy::State::examine` meets its contract: a flag says of every role passed that it is fine or zero, another of every file; with the
+-- tree, the counts and the slots they make the test. The measures are what is left of each. Assumes nothing.
 use mathlib.Core.Path.{_≡_, refl, sym, ap, _∙_}
 use Prim.Native.Nat.{ℕ, _≤_, _-_}
 use native.Mathlib.Omega.{arith}
@@ -95,12 +96,16 @@ array-copy-out-its c = omega (arith, c .below .ensures .0)
 
 returns : tie.Need-returns Inv-loop μ-loop Inv-loop2 μ-loop2
 returns c =
-    let s = c .before .before .before .before .before .before .before .before .before .before .before .before .before .before .before .before .before .args .self in
-    let t = c .before .before .before .before .before .before .before .before .before .before .before .before .before .before .before .examine-tree .ensures in
-    let rs : length (s .roles) ≡ mostRoles = sym (length-map (s .roles) _) ∙ c .before .before .before .before .before .before .before .before .before .before .before .before .before .before .before .before .before .good .0 .1 .1 .1 .1 .0 .1 .0 .1 in
-    let fs : length (s .files) ≡ mostFiles = sym (length-map (s .files) _) ∙ c .before .before .before .before .before .before .before .before .before .before .before .before .before .before .before .before .before .good .0 .1 .1 .1 .1 .1 .1 .0 .1 .0 .1 in
-    let roles = walked roleShelves (s .roles) rs (c .before .before .before .before .before .before .before .before .before .loop .inv .1) (omega arith) in
-    let files = walked fileShelves (s .files) fs (c .before .before .before .before .before .before .before .loop2 .inv .1) (omega arith) in
+    let no-role-left : c .before .before .before .before .before .before .before .before .before .loop .i ≡ mostRoles = omega arith in
+    let no-file-left : c .before .before .before .before .before .before .before .loop2 .j ≡ mostFiles = omega arith in
+    let c₁₅ = c .before .before .before .before .before .before .before .before .before .before .before .before .before .before .before in
+    let c₁₇ = c₁₅ .before .before in
+    let s = c₁₇ .args .self in
+    let t = c₁₅ .examine-tree .ensures in
+    let rs : length (s .roles) ≡ mostRoles = sym (length-map (s .roles) _) ∙ c₁₇ .good .0 .1 .1 .1 .1 .0 .1 .0 .1 in
+    let fs : length (s .files) ≡ mostFiles = sym (length-map (s .files) _) ∙ c₁₇ .good .0 .1 .1 .1 .1 .1 .1 .0 .1 .0 .1 in
+    let roles = walked roleShelves (s .roles) rs (c .before .before .before .before .before .before .before .before .before .loop .inv .1) no-role-left in
+    let files = walked fileShelves (s .files) fs (c .before .before .before .before .before .before .before .loop2 .inv .1) no-file-left in
     let held = c .before .before .before .before .role-held .ensures in
     record {
       says = tested s _ t roles files (c .before .before .before .before .before .slots-are .ensures);
