@@ -15,7 +15,7 @@ use Rattle.text.specs.Text.{Tokens, end, spaced, blank, whole}
 use Rattle.text.specs.Scan.{Frame, Left, Part, alone, from, upto, State, want, bound, digits, counted, dotted, done, fresh}
 use Rattle.text.specs.Scan.{opened, and-to, or-to, finish, shut, anded, ored, move, ends, at-first, Reaches}
 use Rattle.text.specs.Place.{said, fault}
-use Rattle.text.specs.Kept.{counted as Kept·counted, Kept}
+use Rattle.text.specs.Kept.{capped, Kept}
 use Rattle.text.specs.Reader.{classAt, standsAt, At, Good, On, Holds, Beside, Appends, Inserts, Skipped, Counts}
 use Rattle.text.specs.Reader.{Needs, Signed, Dotted, Numbered, Ranged, Item, front, Ands, Ors, Whole}
 use Rattle.text.specs.declared.Reading.{Reading}
@@ -161,7 +161,7 @@ module _ (s : List ℕ) where
   }
 
   -- the bytes made before start there
-  starts : (g : Reading) (w : List ℕ) → g .ok ≡ true → Holds g w → g .made ≡ Kept·counted w
+  starts : (g : Reading) (w : List ℕ) → g .ok ≡ true → Holds g w → g .made ≡ capped w
   starts g w ok h = h ok .count
 
   -- ---- an item

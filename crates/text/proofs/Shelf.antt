@@ -7,7 +7,7 @@ use native.Mathlib.Numerals.{add-one}
 use native.Mathlib.Omega.{arith}
 use lib.ListN.{length, take, getD, set, length-set, length-append, List·getD-append}
 use lib.Seq.{getD-take, getD-append-add, getD-at, ext-getD, length-take-le, take-suc-set, getD-set-same, getD-set-other}
-use Rattle.text.specs.Kept.{counted, Kept, Moved}
+use Rattle.text.specs.Kept.{capped, Kept, Moved}
 use Rattle.text.specs.Reader.{Appends, Inserts}
 use Rattle.text.specs.declared.Reading.{Reading}
 
@@ -70,7 +70,7 @@ put-over g x u = record {
 one-more : (v : List ℕ) (x : ℕ) (w : List ℕ) → length (v ++ (x ∷ w)) ≡ length (v ++ w) + 1
 one-more v x w = omega (arith, length-append v (x ∷ w), length-append v w)
 
-module _ (n start x : ℕ) (b r : List ℕ) (l : length b ≡ 48) (u : n < 48) (m : Moved b start n r) (v w : List ℕ) (at : start ≡ counted v)
+module _ (n start x : ℕ) (b r : List ℕ) (l : length b ≡ 48) (u : n < 48) (m : Moved b start n r) (v w : List ℕ) (at : start ≡ capped v)
     (k : Kept n b (v ++ w)) where
   old : (j : ℕ) → j < n → getD b j 0 ≡ getD (v ++ w) j 0
   old j h = sym (getD-take n b j 0 h) ∙ ap (λ (z : List ℕ). getD z j 0) (k .holds (omega arith))

@@ -1,5 +1,4 @@
--- What turning a text answers, and what it leaves in the output (01, "In text", "Numbers given back", "Place for 18", "Order").
--- Definitions only.
+-- What turning a text answers, and what it leaves in the output (01, "In text", "Numbers given back", "Place for 18", "Order"). Definitions only.
 use mathlib.Core.Path.{_≡_}
 use mathlib.Core.List.{List, [], _∷_, _++_}
 use mathlib.Core.Logic.{_⊎_}

@@ -4,13 +4,13 @@ use Prim.Native.Nat.{ℕ, _≤_, _-_}
 use lib.ListN.{length, take}
 use native.Mathlib.Omega.{arith}
 use borrow.Author.Needs.{needs}
-use Rattle.lines.specs.Writing.{Written}
+use Rattle.lines.specs.Writing.{WrittenAt}
 use Rattle.lines.proofs.Laws.{none-written, copy-more, copied-to}
 use Rattle.lines.proofs.copy.Statement.{statement}
 use Rattle.lines.proofs.copy.Tie as tie
 
 abbrev Inv-loop : tie.InvT-loop
-Inv-loop out₀ at k d p₀ i₀ out p i = (i ≤ k) × Written out₀ at (take i d) out p
+Inv-loop out₀ at k d p₀ i₀ out p i = (i ≤ k) × WrittenAt out₀ at (take i d) out p
 
 abbrev μ-loop : tie.MeasureT-loop
 μ-loop out₀ at k d p₀ i₀ out p i = k - i
@@ -57,7 +57,7 @@ returns c =
     let l = c .before .loop in
     let v = l .inv in
     let e : l .i ≡ a .k = omega (arith, v .0, c .loop-test .left) in
-    subst (λ (z : ℕ). Written (a .out .now) (a .at) (take z (a .t3)) (l .out) (l .p)) e (v .1)
+    subst (λ (z : ℕ). WrittenAt (a .out .now) (a .at) (take z (a .t3)) (l .out) (l .p)) e (v .1)
 
 pub copy-spec : {M : Type 1} → statement M
 copy-spec =

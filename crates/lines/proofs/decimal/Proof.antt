@@ -1,4 +1,4 @@
--- `decimal` meets its contract. Assumes nothing.
+-- `decimal` meets its contract: the digits that were made are copied. Assumes nothing.
 use lib.ListN.{take}
 use Rattle.lines.proofs.Laws.{few-digits}
 use native.Mathlib.Omega.{arith}

@@ -5,13 +5,13 @@ use lib.ListN.{length, take}
 use native.Mathlib.Omega.{arith}
 use borrow.Author.Needs.{needs}
 use Rattle.lines.specs.Lines.{hexes}
-use Rattle.lines.specs.Writing.{Written}
+use Rattle.lines.specs.Writing.{WrittenAt}
 use Rattle.lines.proofs.Laws.{none-written, hexes-more, hexed-to}
 use Rattle.lines.proofs.hexes.Statement.{statement}
 use Rattle.lines.proofs.hexes.Tie as tie
 
 abbrev Inv-loop : tie.InvT-loop
-Inv-loop out₀ at n b p₀ i₀ out p i = (i ≤ n) × Written out₀ at (hexes (take i b)) out p
+Inv-loop out₀ at n b p₀ i₀ out p i = (i ≤ n) × WrittenAt out₀ at (hexes (take i b)) out p
 
 abbrev μ-loop : tie.MeasureT-loop
 μ-loop out₀ at n b p₀ i₀ out p i = n - i
@@ -58,7 +58,7 @@ returns c =
     let l = c .before .loop in
     let v = l .inv in
     let e : l .i ≡ a .n = omega (arith, v .0, c .loop-test .left) in
-    subst (λ (z : ℕ). Written (a .out .now) (a .at) (hexes (take z (a .t3))) (l .out) (l .p)) e (v .1)
+    subst (λ (z : ℕ). WrittenAt (a .out .now) (a .at) (hexes (take z (a .t3))) (l .out) (l .p)) e (v .1)
 
 pub hexes-spec : {M : Type 1} → statement M
 hexes-spec =

@@ -1,6 +1,5 @@
--- The proof of the cycle of calls {and_level, item, or_level}. The measure is three times what is left
--- of the text, and the level's rank: remaining text and level together fall.
--- Assumes nothing.
+-- The cycle of calls {and_level, item, or_level} meets its contracts: each level follows from the one below it.
+-- The measure is three times what is left of the text, and the level's rank. Assumes nothing.
 use mathlib.Core.Path.{sym, _∙_}
 use Prim.Native.Nat.{ℕ, _+_, _-_, _*_, _<_}
 use native.Mathlib.Omega.{arith}

@@ -1,4 +1,4 @@
--- `dots` meets its contract. Assumes nothing.
+-- `dots` meets its contract: the first dot leads the scan between two dots, and the second is a sign. Assumes nothing.
 use native.Mathlib.Omega.{arith}
 use Rattle.text.proofs.Laws.{stands-in}
 use Rattle.text.proofs.Levels.{dots-on, dots-not}

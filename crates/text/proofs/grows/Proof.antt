@@ -1,4 +1,4 @@
--- `grows` meets its contract. Assumes nothing.
+-- `grows` meets its contract: by the three tests, one after the other. Assumes nothing.
 use mathlib.Core.Path.{sym, _∙_}
 use Rattle.text.proofs.Laws.{grows-is, grows-zero, grows-not}
 use borrow.Author.Needs.{needs}

@@ -1,4 +1,4 @@
--- `insert` meets its contract. Assumes nothing.
+-- `insert` meets its contract: the bytes from the place on have moved up, or the number is over the most. Assumes nothing.
 use mathlib.Core.Path.{_≡_}
 use lib.ListN.{length}
 use Rattle.text.proofs.Shelf.{insert-in, insert-far, insert-over}

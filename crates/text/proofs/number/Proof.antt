@@ -1,4 +1,4 @@
--- `number` meets its contract. Assumes nothing.
+-- `number` meets its contract: its digits, the spaces after them, and its byte; or the scan stops. Assumes nothing.
 use Rattle.text.proofs.Laws.{stands-class}
 use Rattle.text.proofs.Levels.{num-on, num-not}
 use borrow.Author.Needs.{needs}

@@ -1,4 +1,4 @@
--- `read` meets its contract. Assumes nothing.
+-- `read` meets its contract: a blank text is spaces to its end; else the levels read all of it, or it is at fault where they stop. Assumes nothing.
 use Rattle.text.proofs.Levels.{read-blank, read-left, read-end}
 use borrow.Author.Needs.{needs}
 use Rattle.text.proofs.read.Statement.{statement}

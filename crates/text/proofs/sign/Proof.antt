@@ -1,4 +1,4 @@
--- `sign` meets its contract. Assumes nothing.
+-- `sign` meets its contract: where the sign stands, the scan goes past it and the spaces after it; else it stops. Assumes nothing.
 use native.Mathlib.Omega.{arith}
 use Rattle.text.proofs.Laws.{stands-in}
 use Rattle.text.proofs.Levels.{sign-past, sign-not}
