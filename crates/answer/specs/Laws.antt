@@ -30,7 +30,8 @@ same : (a b : Answer) → a .number ≡ b .number → a .place ≡ b .place → 
 same a b p q = ap₂ (λ (n k : ℕ). record { number = n; place = k }) p q
 
 -- whatever the conditions are, they leave one answer
-pub one-answer : (cs : List Condition) (grants : ℕ → Type 0) → OnePlaceEach cs → AtMostOne grants → (a b : Answer) → Decides cs grants a → Decides cs grants b → a ≡ b
+pub one-answer : (cs : List Condition) (grants : ℕ → Type 0) → OnePlaceEach cs
+    → AtMostOne grants → (a b : Answer) → Decides cs grants a → Decides cs grants b → a ≡ b
 one-answer [] grants one g a b p q = same a b (p .0 ∙ sym (q .0)) (g _ _ (p .1) (q .1))
 one-answer (c ∷ cs) grants one g a b (inl p) (inl q) = same a b (p .1 ∙ sym (q .1)) (one .0 _ _ (p .2) (q .2))
 one-answer (c ∷ cs) grants one g a b (inl p) (inr q) = absurd (p .0 (q .0))
@@ -78,7 +79,9 @@ module _ (Legal : List ℕ → Type 0) (bytes : List ℕ) where
       go (no n) = f .at-end (omega (arith, f .within)) l
 
 -- where what is legal after a front is M, a fault of M is one of the whole, further on by the front
-pub fault-after : (L M : List ℕ → Type 0) (front l : List ℕ) → ((r : List ℕ) → L (front ++ r) ↔ M r) → {k : ℕ} → FaultAt M l k → FaultAt L (front ++ l) (length front + k)
+pub fault-after : (L M : List ℕ → Type 0) (front l : List ℕ)
+    → ((r : List ℕ) → L (front ++ r) ↔ M r) → {k : ℕ} → FaultAt M l k
+    → FaultAt L (front ++ l) (length front + k)
 fault-after L M front l goes {k} f = record {
   within = rw (length-append front l) (omega (arith, f .within));
   before = begins k (f .before);

@@ -1,4 +1,5 @@
--- Laws of lists of conditions: what a grant tells, one list after another, when two lists decide alike, and how large a number and a place can be. Assumes nothing.
+-- Laws of lists of conditions: what a grant tells, one list after another, when two lists decide
+-- alike, and how large a number and a place can be. Assumes nothing.
 use mathlib.Core.Path.{_≡_, sym, _∙_}
 use mathlib.Core.Bool.{Bool, true, _&&_}
 use mathlib.Core.List.{List, [], _∷_, _++_}
@@ -101,7 +102,8 @@ abbrev pub Under : ℕ → ℕ → Answer → Type 0
 Under m n a = (a .number < m) × (a .place < n)
 
 -- so are the number and the place of the answer, if the place of a grant is
-pub answer-under : {a : Answer} {grants : ℕ → Type 0} (m n : ℕ) (cs : List Condition) → 0 < m → ((k : ℕ) → grants k → k < n) → numbersUnder m cs ≡ true → PlacesUnder n cs
+pub answer-under : {a : Answer} {grants : ℕ → Type 0} (m n : ℕ) (cs : List Condition) → 0 < m
+    → ((k : ℕ) → grants k → k < n) → numbersUnder m cs ≡ true → PlacesUnder n cs
     → Decides cs grants a → Under m n a
 answer-under {a = a} m n [] i j p q d = (omega (arith, d .0), j (a .place) (d .1))
 answer-under {a = a} m n (c ∷ cs) i j p q (inl d) =

@@ -15,7 +15,8 @@ use Rattle.expression.specs.Expression.{Expr, privilegeSET, Meets}
 use Rattle.expression.specs.Bytes.{bytes, SET, MeetsT1, MeetsT2}
 use Rattle.expression.specs.Scan.{bytes-some}
 use Rattle.expression.specs.Unique.{one-expression}
-use Rattle.expression.specs.Decide.{NamedBelow, namedB, named-true, reachesB, levelB, anyB, allB, betweenB, inTermB, inB, metB, both-true, any-iff, all-iff, in-below, in-iff, met-iff}
+use Rattle.expression.specs.Decide.{NamedBelow, namedB, named-true, reachesB, levelB, anyB, allB, betweenB, inTermB}
+use Rattle.expression.specs.Decide.{inB, metB, both-true, any-iff, all-iff, in-below, in-iff, met-iff}
 use Rattle.expression.specs.Starred.{park, these, Case, is-set, t1, t1-nobody, e-has, e-everybody, t2-bars, g-bars, Says, Means, cases, AllMean}
 
 unfoldable pub belowB : List ℕ → Bool

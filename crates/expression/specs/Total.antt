@@ -12,7 +12,8 @@ use Rattle.answer.specs.Laws.{fault-after}
 use Rattle.expression.specs.declared.Kind.{Kind}
 use Rattle.expression.specs.declared.Kind.the-variants.{Privilege, Protection}
 use Rattle.expression.specs.Bytes.{MayOR, Written, Right}
-use Rattle.expression.specs.Scan.{Rest, head-is, cons-nil, rest-none, rest-and, rest-or, rest-other, written-rest, whole-one, whole-range, fault-over, fault-end, fault-code, fault-one, fault-securon, fault-from, fault-to, fault-right}
+use Rattle.expression.specs.Scan.{Rest, head-is, cons-nil, rest-none, rest-and, rest-or, rest-other, written-rest, whole-one, whole-range}
+use Rattle.expression.specs.Scan.{fault-over, fault-end, fault-code, fault-one, fault-securon, fault-from, fault-to, fault-right}
 
 -- bytes are legal, or have a fault
 abbrev pub Judged : (List ℕ → Type 0) → List ℕ → Type 0

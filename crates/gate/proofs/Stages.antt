@@ -22,7 +22,8 @@ use Rattle.policy.specs.declared.Role.{Role}
 use Rattle.policy.specs.declared.File.{File}
 use Rattle.policy.specs.declared.State.{State}
 use Rattle.policy.specs.declared.Examined.{Examined}
-use Rattle.policy.specs.State.{mostRoles, mostFiles, Hold, heldIn, slotWith, Present, roleAt, fileAt, roleOf, holdOf, setFiles, setSlots, withHold, withFile, putPair, withPair}
+use Rattle.policy.specs.State.{mostRoles, mostFiles, Hold, heldIn, slotWith, Present, roleAt, fileAt, roleOf}
+use Rattle.policy.specs.State.{holdOf, setFiles, setSlots, withHold, withFile, putPair, withPair}
 use Rattle.policy.specs.WellFormed.{RoleInOrder, FileInOrder, WellFormed, Examines}
 use Rattle.policy.specs.Whole.{session-holds}
 use Rattle.rules.specs.AtHand.{AtHand}
@@ -122,7 +123,8 @@ module _ {cs : List Condition} {made s : State} {a : Answer} {e : Effect} (d : D
   }
 
 -- both: a grant stores two expressions from place k of the file on, a refusal stores nothing
-module _ {s : State} {slot file : ℕ} {seen : Examined} (x : Examines s slot file seen) (cs : List Condition) (a : Answer) (k : ℕ) (p q : List ℕ) (e : Effect) where
+module _ {s : State} {slot file : ℕ} {seen : Examined} (x : Examines s slot file seen) (cs : List Condition) (a : Answer) (k : ℕ) (p q : List ℕ)
+    (e : Effect) where
   pub tells-stored : DecidesAt cs 0 a → (Granted a → SessionGranted s slot × Present s file) → StoredIs seen a k p q e
       → Tells s (Does cs 0 (withPair s file k p q) s) e
   tells-stored d all r = go (ℕ-discrete (a .number) 0)

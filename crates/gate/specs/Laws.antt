@@ -19,7 +19,8 @@ use Rattle.policy.specs.WellFormed.{WellFormed}
 use Rattle.policy.specs.Kept.{by-kept, free-kept, t1t2-kept, eg-kept}
 use Rattle.policy.specs.Reads.{hold-here}
 use Rattle.gate.specs.declared.Effect.{Effect}
-use Rattle.gate.specs.Requests.{Outcome, beginConditions, sessionConditions, endConditions, rowConditions, askConditions, storeConditions, covered, changeConditions, bypassConditions, Does, Begins, Ends, Asks, Changes, Bypasses}
+use Rattle.gate.specs.Requests.{Outcome, beginConditions, sessionConditions, endConditions, rowConditions, askConditions, storeConditions}
+use Rattle.gate.specs.Requests.{covered, changeConditions, bypassConditions, Does, Begins, Ends, Asks, Changes, Bypasses}
 use Rattle.gate.specs.Effects.{outcome, Tells}
 use Rattle.gate.specs.Granted.{BeginGranted, SessionGranted, RowGranted, AskGranted, StoreGranted, ChangeGranted, BypassGranted}
 
@@ -95,7 +96,11 @@ module _ (s : State) (slot : ℕ) where
     }
 
     pub store-named : (kind : Kind) (x y : List ℕ) → AllHold (storeConditions kind s slot file mode x y) → StoreGranted kind s slot file mode x y
-    store-named kind x y (w, (l, (t, (p, (m, (r, (a, (b, _)))))))) = record { row = row-named changeProtection (w, (l, (t, (p, (m, (r, tt)))))); first = a; second = b }
+    store-named kind x y (w, (l, (t, (p, (m, (r, (a, (b, _)))))))) = record {
+      row = row-named changeProtection (w, (l, (t, (p, (m, (r, tt))))));
+      first = a;
+      second = b;
+    }
 
 -- what a grant tells of each request
 module _ (s : State) (slot : ℕ) (a : Answer) where

@@ -13,7 +13,7 @@ use lib.Seq.{take-suc, take-suc-set, take-all, take-append-le, split-at, length-
 use Rattle.io.specs.Digits.{glyph, Fewest}
 use Rattle.answer.specs.declared.Answer.{Answer}
 use Rattle.lines.specs.Lines.{hexes, Fills, Held, Unended, Collected}
-use Rattle.lines.specs.Writing.{Written, Counted, Keeps}
+use Rattle.lines.specs.Writing.{WrittenAt, DecimalAt, Keeps}
 
 -- lists that are the same from k on are the same from further on
 drop-more : (x y : List ℕ) (k j : ℕ) → k ≤ j → drop k x ≡ drop k y → drop j x ≡ drop j y
@@ -22,13 +22,18 @@ drop-more x y k j h e =
     subst (λ (z : ℕ). drop z x ≡ drop z y) i (sym (drop-drop (j - k) k x) ∙ ap (drop (j - k)) e ∙ drop-drop (j - k) k y)
 
 -- ---- what is written
-pub none-written : (d : List ℕ) (at : ℕ) → Written d at [] d at
+pub none-written : (d : List ℕ) (at : ℕ) → WrittenAt d at [] d at
 none-written d at = record { next = omega arith; is = sym (append-nil (take at d)); rest = refl; long = refl }
 
-pub one-written : (d : List ℕ) (at x : ℕ) → at < length d → Written d at (x ∷ []) (set d at x) (at + 1)
-one-written d at x h = record { next = refl; is = ap (λ (n : ℕ). take n (set d at x)) (add-one at) ∙ take-suc-set d at x h; rest = drop-set-lt (at + 1) d at x (omega arith); long = length-set d at x }
+pub one-written : (d : List ℕ) (at x : ℕ) → at < length d → WrittenAt d at (x ∷ []) (set d at x) (at + 1)
+one-written d at x h = record {
+  next = refl;
+  is = ap (λ (n : ℕ). take n (set d at x)) (add-one at) ∙ take-suc-set d at x h;
+  rest = drop-set-lt (at + 1) d at x (omega arith);
+  long = length-set d at x;
+}
 
-pub then-written : {d m e : List ℕ} {at p r : ℕ} {v w : List ℕ} → Written d at v m p → Written m p w e r → Written d at (v ++ w) e r
+pub then-written : {d m e : List ℕ} {at p r : ℕ} {v w : List ℕ} → WrittenAt d at v m p → WrittenAt m p w e r → WrittenAt d at (v ++ w) e r
 then-written {d} {m} {e} {at} {p} {r} {v} {w} f g = record {
   next = omega (arith, f .next, g .next, length-append v w);
   is = g .is ∙ ap (λ (z : List ℕ). z ++ w) (f .is) ∙ append-assoc (take at d) v w;
@@ -46,11 +51,15 @@ hexes-long (x ∷ u) = let h = hexes-long u in omega arith
 
 -- one element more of a list, by a loop that writes f of each
 module _ (d a : List ℕ) (at i : ℕ) (h : i < length a) where
-  pub copy-more : (m e : List ℕ) (p r : ℕ) → Written d at (take i a) m p → Written m p (getD a i 0 ∷ []) e r → Written d at (take (i + 1) a) e r
-  copy-more m e p r f g = subst (λ (z : List ℕ). Written d at z e r) (sym (ap (λ (n : ℕ). take n a) (add-one i) ∙ take-suc a i 0 h)) (then-written f g)
+  pub copy-more : (m e : List ℕ) (p r : ℕ) → WrittenAt d at (take i a) m p → WrittenAt m p (getD a i 0 ∷ []) e r → WrittenAt d at (take (i + 1) a) e r
+  copy-more m e p r f g = subst (λ (z : List ℕ). WrittenAt d at z e r) (sym (ap (λ (n : ℕ). take n a) (add-one i) ∙ take-suc a i 0 h)) (then-written f g)
 
-  pub hexes-more : (m e : List ℕ) (p r : ℕ) → Written d at (hexes (take i a)) m p → Written m p (hexes (getD a i 0 ∷ [])) e r → Written d at (hexes (take (i + 1) a)) e r
-  hexes-more m e p r f g = subst (λ (z : List ℕ). Written d at z e r) (sym (ap (λ (n : ℕ). hexes (take n a)) (add-one i) ∙ ap hexes (take-suc a i 0 h) ∙ hexes-append (take i a) (getD a i 0 ∷ []))) (then-written f g)
+  pub hexes-more : (m e : List ℕ) (p r : ℕ) → WrittenAt d at (hexes (take i a)) m p
+      → WrittenAt m p (hexes (getD a i 0 ∷ [])) e r → WrittenAt d at (hexes (take (i + 1) a)) e r
+  hexes-more m e p r f g =
+      subst (λ (z : List ℕ). WrittenAt d at z e r)
+      (sym (ap (λ (n : ℕ). hexes (take n a)) (add-one i) ∙ ap hexes (take-suc a i 0 h) ∙ hexes-append (take i a) (getD a i 0 ∷ [])))
+      (then-written f g)
 
 -- ---- what is kept of a line
 module _ (n : ℕ) (kept : List ℕ) (x : ℕ) where
@@ -69,7 +78,10 @@ module _ (n : ℕ) (kept : List ℕ) (x : ℕ) where
 
   pub keep-full : 513 ≤ n → Keeps n kept x n kept
   keep-full h = record {
-    held = λ w f. let c = f .count in let e = length-append w (x ∷ []) in record { count = omega arith; is = f .is ∙ sym (take-append-le 513 w (x ∷ []) (omega arith)) };
+    held = λ w f.
+        let c = f .count in
+        let e = length-append w (x ∷ []) in
+        record { count = omega arith; is = f .is ∙ sym (take-append-le 513 w (x ∷ []) (omega arith)) };
     on = omega arith;
     rest = refl;
     long = refl;
@@ -92,7 +104,8 @@ module _ (input : List ℕ) (n : ℕ) (before : List ℕ) where
   collect-start = record { within = omega arith; unended = tt; held = λ w h. rw append-nil h; rest = refl; long = refl }
 
   module _ (i k : ℕ) (kept : List ℕ) (c : Collecting input n before i k kept) where
-    pub collect-more : i < length input → (getD input i 0 ≡ 10 → ⊥) → (j : ℕ) (after : List ℕ) → Keeps k kept (getD input i 0) j after → Collecting input n before (i + 1) j after
+    pub collect-more : i < length input → (getD input i 0 ≡ 10 → ⊥) → (j : ℕ) (after : List ℕ)
+        → Keeps k kept (getD input i 0) j after → Collecting input n before (i + 1) j after
     collect-more h e j after q =
         let s : take (i + 1) input ≡ take i input ++ (getD input i 0 ∷ []) = ap (λ (z : ℕ). take z input) (add-one i) ∙ take-suc input i 0 h in
         record {
@@ -108,7 +121,9 @@ module _ (input : List ℕ) (n : ℕ) (before : List ℕ) where
       part = take i input;
       unended = c .unended;
       within = omega arith;
-      ended = λ _. split-at input i 0 h ∙ ap (λ (z : ℕ). take i input ++ (z ∷ drop (suc i) input)) e ∙ ap (λ (z : ℕ). take i input ++ (10 ∷ drop z input)) (sym (add-one i));
+      ended = λ _.
+          split-at input i 0 h ∙ ap (λ (z : ℕ). take i input ++ (z ∷ drop (suc i) input)) e
+          ∙ ap (λ (z : ℕ). take i input ++ (10 ∷ drop z input)) (sym (add-one i));
       unfinished = λ z. absurd (true≢false z);
       held = c .held;
       rest = c .rest;
@@ -129,24 +144,41 @@ module _ (input : List ℕ) (n : ℕ) (before : List ℕ) where
 
 -- ---- how far it is written
 module _ (a : List ℕ) (i : ℕ) (h : i ≤ length a) where
-  pub copied-to : {d m : List ℕ} {at p : ℕ} → Written d at (take i a) m p → p ≡ at + i
+  pub copied-to : {d m : List ℕ} {at p : ℕ} → WrittenAt d at (take i a) m p → p ≡ at + i
   copied-to {at = at} f = f .next ∙ ap (λ (z : ℕ). at + z) (length-take-le i a h)
 
-  pub hexed-to : {d m : List ℕ} {at p : ℕ} → Written d at (hexes (take i a)) m p → p ≡ at + 3 * i
+  pub hexed-to : {d m : List ℕ} {at p : ℕ} → WrittenAt d at (hexes (take i a)) m p → p ≡ at + 3 * i
   hexed-to {at = at} f = f .next ∙ ap (λ (z : ℕ). at + z) (hexes-long (take i a) ∙ ap (λ (z : ℕ). 3 * z) (length-take-le i a h))
 
-pub three-written : {d m e f : List ℕ} {at p q r a b b′ c c′ : ℕ} → Written d at (a ∷ []) m p → Written m p (b ∷ []) e q → Written e q (c ∷ []) f r → b ≡ b′ → c ≡ c′ → Written d at (a ∷ b′ ∷ c′ ∷ []) f r
-three-written {d} {f = f} {at = at} {r = r} {a = a} {b = b} {b′ = b′} {c = c} {c′ = c′} x y z e g = subst (λ (k : ℕ). Written d at (a ∷ k ∷ c′ ∷ []) f r) e (subst (λ (k : ℕ). Written d at (a ∷ b ∷ k ∷ []) f r) g (then-written x (then-written y z)))
+pub three-written : {d m e f : List ℕ} {at p q r a b b′ c c′ : ℕ} → WrittenAt d at (a ∷ []) m p
+    → WrittenAt m p (b ∷ []) e q → WrittenAt e q (c ∷ []) f r → b ≡ b′ → c ≡ c′ → WrittenAt d at (a ∷ b′ ∷ c′ ∷ []) f r
+three-written {d} {f = f} {at = at} {r = r} {a = a} {b = b} {b′ = b′} {c = c} {c′ = c′} x y z e g =
+    subst (λ (k : ℕ). WrittenAt d at (a ∷ k ∷ c′ ∷ []) f r) e
+    (subst (λ (k : ℕ). WrittenAt d at (a ∷ b ∷ k ∷ []) f r) g (then-written x (then-written y z)))
 
 -- ---- a whole line
 module _ (a : Answer) (b : List ℕ) (n f : ℕ) (l48 : length b ≡ 48) (is-f : f ≡ min n 48) {d m1 m2 m3 : List ℕ} {i j k : ℕ} (room : 186 ≤ length d)
-    (D1 : Counted d 0 (a .number) m1 i) (P : Written m1 i (32 ∷ []) m2 j) (D2 : Counted m2 j (a .place) m3 k) where
+    (D1 : DecimalAt d 0 (a .number) m1 i) (P : WrittenAt m1 i (32 ∷ []) m2 j) (D2 : DecimalAt m2 j (a .place) m3 k) where
   pub room-hexes : (f ≤ 48) × (k + 3 * f ≤ length m3)
   room-hexes = (omega arith, omega (arith, D1 .written .next, D1 .written .long, D1 .short, P .next, P .long, D2 .written .next, D2 .written .long, D2 .short))
 
-  module _ {m4 : List ℕ} {l : ℕ} (H : Written m3 k (hexes (take f b)) m4 l) where
+  module _ {m4 : List ℕ} {l : ℕ} (H : WrittenAt m3 k (hexes (take f b)) m4 l) where
     pub room-end : l < length m4
-    room-end = omega (arith, room-hexes, hexed-to b f (omega (arith, room-hexes)) H, D1 .written .next, D1 .written .long, D1 .short, P .next, P .long, D2 .written .next, D2 .written .long, D2 .short, H .long)
+    room-end =
+        omega (
+          arith,
+          room-hexes,
+          hexed-to b f (omega (arith, room-hexes)) H,
+          D1 .written .next,
+          D1 .written .long,
+          D1 .short,
+          P .next,
+          P .long,
+          D2 .written .next,
+          D2 .written .long,
+          D2 .short,
+          H .long,
+        )
 
     same-bytes : take f b ≡ take n b
     same-bytes = go (decLt n 48)
@@ -155,7 +187,7 @@ module _ (a : Answer) (b : List ℕ) (n f : ℕ) (l48 : length b ≡ 48) (is-f :
         go (yes h) = let e : f ≡ n = omega arith in ap (λ (z : ℕ). take z b) e
         go (no h) = take-all f b (omega arith) ∙ sym (take-all n b (omega arith))
 
-    pub whole-line : {m5 : List ℕ} {r : ℕ} → Written m4 l (10 ∷ []) m5 r → Fills a (take n b) d m5 r
+    pub whole-line : {m5 : List ℕ} {r : ℕ} → WrittenAt m4 l (10 ∷ []) m5 r → Fills a (take n b) d m5 r
     whole-line {m5} {r} Q =
         let w = then-written (D1 .written) (then-written P (then-written (D2 .written) (then-written H Q))) in
         let h : r ≤ length m5 = omega (arith, room-end, Q .next, Q .long) in

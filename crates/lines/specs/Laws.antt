@@ -66,9 +66,11 @@ module _ (input : List ℕ) (n : ℕ) (before : List ℕ) (few : n ≤ 513) (lon
   not-both {r} c d e f = has-end (c .part) (drop (r .next) input) (subst Unended (sym (d .unfinished f .0) ∙ c .ended e) (d .unended))
 
   -- the part, the place after it and whether it has ended are those of the input
-  found : {r s : Part} {x y : List ℕ} (c : Collected input n before r x) (d : Collected input n before s y) (b b′ : Bool) → r .ended ≡ b → s .ended ≡ b′ → (c .part ≡ d .part) × (r .next ≡ s .next) × (b ≡ b′)
+  found : {r s : Part} {x y : List ℕ} (c : Collected input n before r x) (d : Collected input n before s y) (b b′ : Bool)
+      → r .ended ≡ b → s .ended ≡ b′ → (c .part ≡ d .part) × (r .next ≡ s .next) × (b ≡ b′)
   found {r} {s} c d true true e f =
-      let p : c .part ≡ d .part = same-part (c .part) (d .part) (drop (r .next) input) (drop (s .next) input) (c .unended) (d .unended) (sym (c .ended e) ∙ d .ended f) in
+      let p : c .part ≡ d .part =
+      same-part (c .part) (d .part) (drop (r .next) input) (drop (s .next) input) (c .unended) (d .unended) (sym (c .ended e) ∙ d .ended f) in
       (p, ended-next c e ∙ ap (λ (z : List ℕ). length z + 1) p ∙ sym (ended-next d f), refl)
   found c d false false e f = (sym (c .unfinished e .0) ∙ d .unfinished f .0, c .unfinished e .1 ∙ sym (d .unfinished f .1), refl)
   found c d true false e f = absurd (not-both c d e f)
@@ -76,13 +78,16 @@ module _ (input : List ℕ) (n : ℕ) (before : List ℕ) (few : n ≤ 513) (lon
 
   -- so are the bytes that are kept
   all-held : {r : Part} {x : List ℕ} (c : Collected input n before r x) → Held (r .n) x (take n before ++ c .part)
-  all-held c = let e = length-take-le n before (omega arith) in c .held (take n before) (record { count = omega arith; is = sym (take-all 513 (take n before) (omega arith)) })
+  all-held c =
+      let e = length-take-le n before (omega arith) in
+      c .held (take n before) (record { count = omega arith; is = sym (take-all 513 (take n before) (omega arith)) })
 
   pub one-collected : {r s : Part} {x y : List ℕ} → Collected input n before r x → Collected input n before s y → (r ≡ s) × (x ≡ y)
   one-collected {r} {s} {x} {y} c d =
       let w = found c d (r .ended) (s .ended) refl refl in
       let k : r .n ≡ s .n = all-held c .count ∙ ap (λ (z : List ℕ). min 513 (length (take n before ++ z))) (w .0) ∙ sym (all-held d .count) in
       let m : take (r .n) x ≡ take (s .n) y = all-held c .is ∙ ap (λ (z : List ℕ). take 513 (take n before ++ z)) (w .0) ∙ sym (all-held d .is) in (
-        ap₂ (λ (i : ℕ) (j : ℕ). record { n = i; next = j; ended = r .ended }) k (w .1) ∙ ap (λ (b : Bool). record { n = s .n; next = s .next; ended = b }) (w .2),
+        ap₂ (λ (i : ℕ) (j : ℕ). record { n = i; next = j; ended = r .ended }) k (w .1)
+            ∙ ap (λ (b : Bool). record { n = s .n; next = s .next; ended = b }) (w .2),
         sym (take-append-drop (r .n) x) ∙ ap₂ _++_ m (c .rest ∙ ap (λ (z : ℕ). drop z before) k ∙ sym (d .rest)) ∙ take-append-drop (s .n) y,
       )

@@ -1,4 +1,4 @@
--- What the functions that write say to each other.
+-- What the functions that write say to each other. A device of the proofs.
 use mathlib.Core.Path.{_≡_}
 use mathlib.Core.List.{List, [], _∷_, _++_}
 use Prim.Native.Nat.{ℕ, _+_, _≤_}
@@ -6,18 +6,18 @@ use lib.ListN.{length, take, drop}
 use Rattle.lines.specs.Lines.{Decimal, Held}
 
 -- w was written at the place at, up to r
-pub record Written (before : List ℕ) (at : ℕ) (w after : List ℕ) (r : ℕ) : Type 0 where
+pub record WrittenAt (before : List ℕ) (at : ℕ) (w after : List ℕ) (r : ℕ) : Type 0 where
   pub next : r ≡ at + length w
   pub is : take r after ≡ take at before ++ w
   pub rest : drop r after ≡ drop r before
   pub long : length after ≡ length before
 
 -- n was written in decimal
-pub record Counted (before : List ℕ) (at n : ℕ) (after : List ℕ) (r : ℕ) : Type 0 where
+pub record DecimalAt (before : List ℕ) (at n : ℕ) (after : List ℕ) (r : ℕ) : Type 0 where
   pub d : List ℕ
   pub decimal : Decimal n d
   pub short : length d ≤ 20
-  pub written : Written before at d after r
+  pub written : WrittenAt before at d after r
 
 -- x was added to the line, or the line was full
 pub record Keeps (n : ℕ) (before : List ℕ) (x r : ℕ) (after : List ℕ) : Type 0 where

@@ -5,7 +5,7 @@ ghost use Prim.Native.Nat.{_≤_, _<_, _+_, _*_, _/_, _%_, min};
 ghost use lib.ListN.{length, take};
 ghost use Rattle.io.specs.Digits.{glyph as Digits·glyph};
 ghost use Rattle.lines.specs.Lines.{hexes as Lines·hexes, Fills, Collected};
-ghost use Rattle.lines.specs.Writing.{Written, Counted, Keeps};
+ghost use Rattle.lines.specs.Writing.{WrittenAt, DecimalAt, Keeps};
 use answer::Answer;
 
 // The most bytes of a line that is printed: 20 digits twice, a space, three for each of 48 bytes, and the line end.
@@ -24,7 +24,7 @@ pub struct Part {
 // x at the place `at`.
 fn put(out: &mut [u8], at: usize, x: u8) -> usize
     requires { ⌜ at < length (now out) ⌝ }
-    ensures { λ r. ⌜ Written (now (out .entry)) at (x ∷ []) (now (out .exit)) r ⌝ }
+    ensures { λ r. ⌜ WrittenAt (now (out .entry)) at (x ∷ []) (now (out .exit)) r ⌝ }
 {
     out[at] = x;
     at + 1
@@ -33,7 +33,7 @@ fn put(out: &mut [u8], at: usize, x: u8) -> usize
 // The first k of d at the place `at`.
 fn copy(out: &mut [u8], at: usize, d: [u8; 20], k: usize) -> usize
     requires { ⌜ (k ≤ 20) × (at + k ≤ length (now out)) ⌝ }
-    ensures { λ r. ⌜ Written (now (out .entry)) at (take k d) (now (out .exit)) r ⌝ }
+    ensures { λ r. ⌜ WrittenAt (now (out .entry)) at (take k d) (now (out .exit)) r ⌝ }
 {
     let mut p = at;
     let mut i = 0;
@@ -47,7 +47,7 @@ fn copy(out: &mut [u8], at: usize, d: [u8; 20], k: usize) -> usize
 // n in decimal.
 fn decimal(out: &mut [u8], at: usize, n: u64) -> usize
     requires { ⌜ at + 20 ≤ length (now out) ⌝ }
-    ensures { λ r. ⌜ Counted (now (out .entry)) at n (now (out .exit)) r ⌝ }
+    ensures { λ r. ⌜ DecimalAt (now (out .entry)) at n (now (out .exit)) r ⌝ }
 {
     let mut d = [0u8; 20];
     let k = io::decimal(n, &mut d);
@@ -65,7 +65,7 @@ fn glyph(d: u8) -> u8
 // A space and the two hex digits of x.
 fn hex(out: &mut [u8], at: usize, x: u8) -> usize
     requires { ⌜ at + 3 ≤ length (now out) ⌝ }
-    ensures { λ r. ⌜ Written (now (out .entry)) at (32 ∷ Digits·glyph (x / 16) ∷ Digits·glyph (x % 16) ∷ []) (now (out .exit)) r ⌝ }
+    ensures { λ r. ⌜ WrittenAt (now (out .entry)) at (32 ∷ Digits·glyph (x / 16) ∷ Digits·glyph (x % 16) ∷ []) (now (out .exit)) r ⌝ }
 {
     let p = put(out, at, b' ');
     let q = put(out, p, glyph(x / 16));
@@ -75,7 +75,7 @@ fn hex(out: &mut [u8], at: usize, x: u8) -> usize
 // The first n bytes of b in hex.
 fn hexes(out: &mut [u8], at: usize, b: [u8; 48], n: usize) -> usize
     requires { ⌜ (n ≤ 48) × (at + 3 * n ≤ length (now out)) ⌝ }
-    ensures { λ r. ⌜ Written (now (out .entry)) at (Lines·hexes (take n b)) (now (out .exit)) r ⌝ }
+    ensures { λ r. ⌜ WrittenAt (now (out .entry)) at (Lines·hexes (take n b)) (now (out .exit)) r ⌝ }
 {
     let mut p = at;
     let mut i = 0;

@@ -9,5 +9,7 @@ use Rattle.shelf.specs.Fine.{UsedOrZero}
 use Rattle.policy.specs.Fine.{Shelving, OneIs}
 
 module _ {X : Type 0} (k : Shelving X) {used t : Bool} {n d : ℕ} (x : X) where
-  pub one-is : HasPlaces (k .places) (k .lensOf x) (k .bytesOf x) → (t ≡ true) ↔ UsedOrZero used (k .file) n d (k .lensOf x) (k .bytesOf x) → (t ≡ true) ↔ OneIs k used n d x
+  pub one-is : HasPlaces (k .places) (k .lensOf x) (k .bytesOf x)
+      → (t ≡ true) ↔ UsedOrZero used (k .file) n d (k .lensOf x) (k .bytesOf x)
+      → (t ≡ true) ↔ OneIs k used n d x
   one-is room said = iff-trans said ((λ w. record { room = room; is = w }), λ w. w .is)

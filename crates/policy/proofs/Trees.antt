@@ -19,7 +19,9 @@ module _ (t : Tree) (long : length (t .parent) ≡ setRoom) (tree : IsTree t) wh
   rest = take-all (setRoom - t .n) (drop (t .n) (t .parent)) (omega (arith, length-drop (t .n) (t .parent)))
 
   -- the root's parent and the part of the parents from n up, each tested
-  pub tree-rest : (y : Bool) → (y ≡ true) ↔ AllZero (take (setRoom - t .n) (drop (t .n) (t .parent))) → ((eqb (getD (t .parent) 0 0) 0 && y) ≡ true) ↔ TreeFine t
+  pub tree-rest : (y : Bool)
+      → (y ≡ true) ↔ AllZero (take (setRoom - t .n) (drop (t .n) (t .parent)))
+      → ((eqb (getD (t .parent) 0 0) 0 && y) ≡ true) ↔ TreeFine t
   tree-rest y f = iff-trans (and-iff _ y (zero-iff (getD (t .parent) 0 0)) f) (
     (λ w. record {
       room = long;

@@ -14,7 +14,8 @@ use Rattle.expression.specs.Bytes.{InOrder}
 use Rattle.shelf.specs.Fine.{kindAt, ShelfFine}
 use Rattle.shelf.specs.Kept.{even-kind, odd-kind, put-places, put-fine}
 use Rattle.policy.specs.declared.State.{State}
-use Rattle.policy.specs.State.{slotCount, IsMode, filePlaces, Hold, Free, By, heldIn, slotWith, fileAt, holdOf, RolePresent, Present, putPair, withHold, withPair, withT1T2, withEG, t1Place, ePlace}
+use Rattle.policy.specs.State.{slotCount, IsMode, filePlaces, Hold, Free, By, heldIn, slotWith, fileAt, holdOf, RolePresent}
+use Rattle.policy.specs.State.{Present, putPair, withHold, withPair, withT1T2, withEG, t1Place, ePlace}
 use Rattle.policy.specs.WellFormed.{WellFormed}
 use Rattle.policy.specs.Whole.{free-held, held-written, file-used, all-used, all-set, fine-well-formed, well-formed-fine}
 

@@ -49,8 +49,11 @@ module _ {n d : ℕ} {f : File} where
     g = λ m h. named (gPlace m) (odd-kind (gPlace m) (omega arith)) (p (gPlace m) (omega arith));
   }
 
-  placed : {j k : ℕ} {kind : Kind} → kindAt true k ≡ kind → j ≡ k → PartInOrder kind n d (f .lens) (f .bytes) j → PartInOrder (kindAt true k) n d (f .lens) (f .bytes) k
-  placed {j} {k} {kind} e q p = subst (λ (x : Kind). PartInOrder x n d (f .lens) (f .bytes) k) (sym e) (subst (λ (i : ℕ). PartInOrder kind n d (f .lens) (f .bytes) i) q p)
+  placed : {j k : ℕ} {kind : Kind} → kindAt true k ≡ kind → j ≡ k
+      → PartInOrder kind n d (f .lens) (f .bytes) j
+      → PartInOrder (kindAt true k) n d (f .lens) (f .bytes) k
+  placed {j} {k} {kind} e q p =
+      subst (λ (x : Kind). PartInOrder x n d (f .lens) (f .bytes) k) (sym e) (subst (λ (i : ℕ). PartInOrder kind n d (f .lens) (f .bytes) i) q p)
 
   pub file-by-place : FileInOrder n d f → (k : ℕ) → k < filePlaces → PartInOrder (kindAt true k) n d (f .lens) (f .bytes) k
   file-by-place o k h = go (ℕ-discrete (k % 4) 0) (ℕ-discrete (k % 4) 1) (ℕ-discrete (k % 4) 2)

@@ -11,7 +11,8 @@ use Rattle.shelf.specs.Shelf.{HasPlaces}
 use Rattle.shelf.specs.Kept.{put-places, put-here, put-there}
 use Rattle.policy.specs.declared.File.{File}
 use Rattle.policy.specs.declared.State.{State}
-use Rattle.policy.specs.State.{slotCount, IsMode, filePlaces, Hold, heldIn, slotWith, offFile, fileAt, Present, holdOf, filePart, t1Of, eOf, t2Of, gOf, parts, filePlace, putFile, putPair, withHold, withPair, withT1T2, withEG}
+use Rattle.policy.specs.State.{slotCount, IsMode, filePlaces, Hold, heldIn, slotWith, offFile, fileAt, Present, holdOf, filePart, t1Of}
+use Rattle.policy.specs.State.{eOf, t2Of, gOf, parts, filePlace, putFile, putPair, withHold, withPair, withT1T2, withEG}
 use Rattle.policy.specs.WellFormed.{HasRoom, WellFormed}
 use Rattle.policy.specs.Parts.{file-by-place}
 use Rattle.policy.specs.Whole.{held-written}

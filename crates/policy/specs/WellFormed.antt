@@ -13,7 +13,8 @@ use Rattle.policy.specs.declared.Role.{Role}
 use Rattle.policy.specs.declared.File.{File}
 use Rattle.policy.specs.declared.State.{State}
 use Rattle.policy.specs.declared.Examined.{Examined}
-use Rattle.policy.specs.State.{mostRoles, mostFiles, slotCount, IsMode, rolePlaces, filePlaces, vPlusPlace, vMinusPlace, m1Place, m2Place, bPlace, t1Place, ePlace, t2Place, gPlace, roleAt, fileAt, RolePresent, Present, By, holdOf, roleOf, noLevels}
+use Rattle.policy.specs.State.{mostRoles, mostFiles, slotCount, IsMode, rolePlaces, filePlaces, vPlusPlace, vMinusPlace, m1Place, m2Place, bPlace}
+use Rattle.policy.specs.State.{t1Place, ePlace, t2Place, gPlace, roleAt, fileAt, RolePresent, Present, By, holdOf, roleOf, noLevels}
 
 -- the room of a state: a parent for each securon, 32 roles of thirteen places, 32 files of twenty places, sixteen slots, each place of 48 bytes.
 -- Every state that code holds has it

@@ -9,7 +9,8 @@ use Rattle.expression.specs.Bytes.{SET, MeetsT1, MeetsT2}
 use Rattle.policy.specs.declared.Role.{Role}
 use Rattle.policy.specs.declared.File.{File}
 use Rattle.policy.specs.declared.State.{State}
-use Rattle.policy.specs.State.{read, write, roleAt, fileAt, rolePart, filePart, vPlusPlace, vMinusPlace, m1Place, m2Place, bPlace, t1Place, ePlace, t2Place, gPlace}
+use Rattle.policy.specs.State.{read, write, roleAt, fileAt, rolePart, filePart, vPlusPlace, vMinusPlace}
+use Rattle.policy.specs.State.{m1Place, m2Place, bPlace, t1Place, ePlace, t2Place, gPlace}
 
 -- "A role passes a row when all four hold": V+ meets T1; SET(E) is within V+; V- does not meet T2; V- and SET(G) share no securon
 pub record PassesRow (t : Tree) (vPlus vMinus : Set) (t1 e t2 g : List ℕ) : Type 0 where

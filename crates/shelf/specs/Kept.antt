@@ -1,4 +1,5 @@
--- A shelf that is fine stays so where an expression in order is put at a place; a shelf of zeros is fine; a place of a store reads as stored, the others as before. Assumes nothing.
+-- A shelf that is fine stays so where an expression in order is put at a place; a shelf of zeros is fine;
+-- a place of a store reads as stored, the others as before. Assumes nothing.
 use mathlib.Core.Path.{_≡_, refl, sym, ap, _∙_, subst}
 use mathlib.Core.Bool.{Bool, true}
 use mathlib.Core.List.{List}
@@ -33,7 +34,9 @@ module _ {places : ℕ} {lens bytes : List ℕ} (p : HasPlaces places lens bytes
   }
 
   -- and is fine, where x is in order for the kind of its place
-  pub put-fine : (file : Bool) (n d : ℕ) → ShelfFine file n d lens bytes → InOrder (kindAt file k) n d x → ShelfFine file n d (set lens k (length x)) (putBytes bytes k x)
+  pub put-fine : (file : Bool) (n d : ℕ) → ShelfFine file n d lens bytes
+      → InOrder (kindAt file k) n d x
+      → ShelfFine file n d (set lens k (length x)) (putBytes bytes k x)
   put-fine file n d f o j l = go (ℕ-discrete j k)
     where
       here : PlaceFine (kindAt file k) n d (set lens k (length x)) (putBytes bytes k x) k

@@ -5,7 +5,8 @@ use Prim.Native.Nat.{ℕ, _+_, _*_, _-_, _<_, _≤_}
 use native.Mathlib.Decide.{decLt}
 use native.Mathlib.Nat.{min-le-left}
 use native.Mathlib.Omega.{arith}
-use lib.ListN.{length, take, drop, getD, set, replicate, length-append, length-take, length-replicate, length-drop, getD-replicate, List·getD-append, List·getD-eq-default}
+use lib.ListN.{length, take, drop, getD, set, replicate, length-append, length-take, length-replicate}
+use lib.ListN.{length-drop, getD-replicate, List·getD-append, List·getD-eq-default}
 use lib.Seq.{paste, take-all, length-take-le, getD-append-add, getD-take, getD-drop, getD-set-same, getD-set-other, ext-getD}
 use Rattle.expression.specs.Bytes.{longest}
 use Rattle.shelf.specs.Shelf.{storedAt, roomPast, padded, putBytes, AllZero}
@@ -63,7 +64,9 @@ module _ (b : List ℕ) (k : ℕ) (x : List ℕ) (hx : length x ≤ longest) (hb
 
   pub put-length : length (putBytes b k x) ≡ length b
   unfolding putBytes
-  put-length = length-append (take (longest * k) b ++ padded x) (drop (longest * k + longest) b) ∙ omega (arith, front-length, length-drop (longest * k + longest) b)
+  put-length =
+      length-append (take (longest * k) b ++ padded x) (drop (longest * k + longest) b)
+      ∙ omega (arith, front-length, length-drop (longest * k + longest) b)
 
   put-before : (m : ℕ) → m < longest * k → getD (putBytes b k x) m 0 ≡ getD b m 0
   unfolding putBytes
@@ -116,7 +119,9 @@ module _ (b : List ℕ) (k : ℕ) (x : List ℕ) (hx : length x ≤ longest) (hb
 
     -- and zero past it
     pub past-put : k < length lens → AllZero (roomPast (set lens k (length x)) (putBytes b k x) k)
-    past-put h = subst (λ (m : ℕ). AllZero (take (longest - m) (drop (longest * k + m) (putBytes b k x)))) (sym (getD-set-same lens k (length x) 0 h)) (λ i. go i (decLt i (longest - length x)))
+    past-put h =
+        subst (λ (m : ℕ). AllZero (take (longest - m) (drop (longest * k + m) (putBytes b k x)))) (sym (getD-set-same lens k (length x) 0 h))
+        (λ i. go i (decLt i (longest - length x)))
       where
         go : (i : ℕ) → Dec (i < longest - length x) → getD (take (longest - length x) (drop (longest * k + length x) (putBytes b k x))) i 0 ≡ 0
         go i (yes l) =
@@ -125,7 +130,9 @@ module _ (b : List ℕ) (k : ℕ) (x : List ℕ) (hx : length x ≤ longest) (hb
             ∙ ap (λ (m : ℕ). getD (putBytes b k x) m 0) e
             ∙ put-within (length x + i) (omega arith)
             ∙ past-end x (length x + i) (omega arith)
-        go i (no n) = past-end (take (longest - length x) (drop (longest * k + length x) (putBytes b k x))) i (omega (arith, part-length (putBytes b k x) (longest * k + length x) (longest - length x) (omega (arith, put-length))))
+        go i (no n) =
+            past-end (take (longest - length x) (drop (longest * k + length x) (putBytes b k x))) i
+            (omega (arith, part-length (putBytes b k x) (longest * k + length x) (longest - length x) (omega (arith, put-length))))
 
     module _ (j : ℕ) (n : j ≡ k → ⊥) (hj : getD lens j 0 ≤ longest) (fits : longest * j + longest ≤ length b) where
       same-length : getD (set lens k (length x)) j 0 ≡ getD lens j 0

@@ -1,4 +1,5 @@
--- A shelf of expressions: what stands at a place, what a store makes of it, when it is in order and when it is zero (01, "Expressions and what they mean": "Length 0 to 48"; "Requests": "unused room is zero"). Definitions only.
+-- A shelf of expressions: what stands at a place, what a store makes of it, when it is in order and when it is zero
+-- (01, "Expressions and what they mean": "Length 0 to 48"; "Requests": "unused room is zero"). Definitions only.
 use mathlib.Core.Path.{_≡_}
 use mathlib.Core.List.{List, _++_}
 use Prim.Native.Nat.{ℕ, _+_, _*_, _-_, _≤_}

@@ -11,7 +11,7 @@ use Rattle.answer.specs.declared.Answer.{Answer}
 use Rattle.answer.specs.Answers.{Is, Decides, Leaves}
 use Rattle.answer.specs.Faults.{FaultAt}
 use Rattle.answer.specs.Laws.{no-fault}
-use Rattle.text.specs.Text.{Gives, Legal}
+use Rattle.text.specs.Text.{TextOf, Legal}
 use Rattle.text.specs.Kept.{Kept}
 use Rattle.text.specs.Turn.{textConditions, textGrants, textMakes}
 use Rattle.text.specs.Complete.{one-reading}
@@ -56,11 +56,11 @@ module _ (s : List ℕ) (room : ℕ) (a : Answer) where
       pub wrong-text : (k : ℕ) → FaultAt Legal s k → Is a 18 k → Right-answer
       wrong-text k f i = inr (h, inl ((λ w. no-fault Legal s (w .1) f), i .number, inr (q, subst (FaultAt Legal s) (sym (i .place)) f)))
 
-      module _ (n : ℕ) (bs b : List ℕ) (g : Gives s b) (k : Kept n bs b) where
+      module _ (n : ℕ) (bs b : List ℕ) (g : TextOf s b) (k : Kept n bs b) where
         pub too-many : 48 < n → Is a 19 0 → Right-answer
         too-many u i = inr (h, inr ((q, (b, g)), inl ((λ w. not-few w), i .number, i .place)))
           where
-            not-few : (c : List ℕ) × Gives s c × (length c ≤ 48) → ⊥
+            not-few : (c : List ℕ) × TextOf s c × (length c ≤ 48) → ⊥
             not-few (c, r, l) = let e : length b ≡ length c = ap length (one-reading g r) in omega (arith, k .count)
 
         all : n ≤ 48 → n ≡ length b

@@ -13,9 +13,7 @@ use lib.Seq.{take-suc}
 use borrow.Author.Tests.{ltb-true, lt-ltb, le-ltb, eqb-true, eq-eqb}
 use Rattle.text.specs.Classes.{classOf, value, pick, digit, space}
 use Rattle.text.specs.Numbers.{both, bounds, low}
-use Rattle.text.specs.Scan.{Left, Part, State, digits, counted, below, grows, move, step, ends, Reached, by-byte}
-use Rattle.text.specs.Complete.{Stays}
-use Rattle.text.specs.Place.{Reaches, next-of, end-of}
+use Rattle.text.specs.Scan.{Left, Part, State, digits, counted, below, grows, move, step, ends, Reached, by-byte, Stays, Reaches, next-of, end-of}
 use Rattle.text.specs.Reader.{classAt, standsAt, growsAt, Skipped, Digit, Counts, Needs}
 use Rattle.text.specs.declared.Reading.{Reading}
 
@@ -47,12 +45,16 @@ module _ (s : List ℕ) where
   pub step-on : (k : ℕ) (t t′ : State) → k < length s → step t (getD s k 0) ≡ some t′ → Reaches s k (some t) → Reaches s (k + 1) (some t′)
   step-on k t t′ h e r = record {
     t = t′;
-    reached = subst (λ (z : List ℕ). Reached z t′) (sym (take-suc s k 0 h) ∙ ap (λ (z : ℕ). take z s) (sym (add-one k))) (by-byte (getD s k 0) (r .reached) (r .byte h ∙ e));
+    reached =
+        subst (λ (z : List ℕ). Reached z t′) (sym (take-suc s k 0 h) ∙ ap (λ (z : ℕ). take z s) (sym (add-one k)))
+        (by-byte (getD s k 0) (r .reached) (r .byte h ∙ e));
     byte = λ _. refl;
     end = λ _. refl;
   }
 
-  pub like : (k : ℕ) (o o′ : Option State) → (k < length s → next-of o (getD s k 0) ≡ next-of o′ (getD s k 0)) → (length s ≤ k → end-of o ≡ end-of o′) → Reaches s k o → Reaches s k o′
+  pub like : (k : ℕ) (o o′ : Option State)
+      → (k < length s → next-of o (getD s k 0) ≡ next-of o′ (getD s k 0))
+      → (length s ≤ k → end-of o ≡ end-of o′) → Reaches s k o → Reaches s k o′
   like k o o′ f g r = record { t = r .t; reached = r .reached; byte = λ h. r .byte h ∙ f h; end = λ h. r .end h ∙ g h }
 
   -- the scan goes on alike from t and from t′ at a place that is read so far
@@ -68,7 +70,8 @@ module _ (s : List ℕ) where
   at-like false k t t′ f r = r
 
   -- a sign that does not stand there stops the scan
-  pub at-stop : (ok : Bool) (k c : ℕ) (t t′ : State) → (ok && classAt s k c) ≡ false → (ok ≡ true → Needs s k c t t′) → Reaches s k (pick ok (some t) none) → Reaches s k none
+  pub at-stop : (ok : Bool) (k c : ℕ) (t t′ : State) → (ok && classAt s k c) ≡ false
+      → (ok ≡ true → Needs s k c t t′) → Reaches s k (pick ok (some t) none) → Reaches s k none
   at-stop true k c t t′ e n r = like k (some t) none (λ h. n refl .byte h ∙ ap (λ (b : Bool). pick b (some t′) none) (class-not k c h e)) (λ h. n refl .end h) r
   at-stop false k c t t′ e n r = r
 
@@ -128,7 +131,9 @@ module _ (s : List ℕ) where
       pub on : at < p
       pub within : p ≤ length s
       pub small : n < below
-      pub moves : (t : State) (q : Part) (l : Left) → step t (getD s at 0) ≡ some (digits q (value (getD s at 0)) l) → Reaches s at (some t) → Reaches s p (some (digits q n l))
+      pub moves : (t : State) (q : Part) (l : Left)
+          → step t (getD s at 0) ≡ some (digits q (value (getD s at 0)) l) → Reaches s at (some t)
+          → Reaches s p (some (digits q n l))
 
     pub count-first : classAt s at digit ≡ true → (d : ℕ) → Digit s at d → Counting d (at + 1)
     count-first e d v = let h = class-in at digit e in record {
@@ -143,7 +148,9 @@ module _ (s : List ℕ) where
       grow-in y = let w = both (ltb p (length s)) (grows n (classOf (getD s p 0)) (value (getD s p 0))) (sym e ∙ y) in (ltb-true _ _ (w .0), w .1)
 
       pub grow-digit : b ≡ true → classAt s p digit ≡ true
-      grow-digit y = let w = grow-in y in rw (lt-ltb p (length s) (w .0)) (both (eqb (classOf (getD s p 0)) digit) (ltb 0 n && ltb (10 * n + value (getD s p 0)) below) (w .1) .0)
+      grow-digit y =
+          let w = grow-in y in
+          rw (lt-ltb p (length s) (w .0)) (both (eqb (classOf (getD s p 0)) digit) (ltb 0 n && ltb (10 * n + value (getD s p 0)) below) (w .1) .0)
 
       pub count-more : b ≡ true → (d : ℕ) → Digit s p d → Counting (10 * n + d) (p + 1)
       count-more y d v =
@@ -155,14 +162,19 @@ module _ (s : List ℕ) where
             on = omega (arith, k .on);
             within = omega arith;
             small = omega (arith, v .is);
-            moves = λ t q l f r. subst (λ (z : ℕ). Reaches s (p + 1) (some (digits q (10 * n + z) l))) (sym (v .is)) (step-on p (digits q n l) _ h (unfold move in rw (w .1)) (k .moves t q l f r));
+            moves =
+                λ t q l f r. subst (λ (z : ℕ). Reaches s (p + 1) (some (digits q (10 * n + z) l))) (sym (v .is))
+                (step-on p (digits q n l) _ h (unfold move in rw (w .1)) (k .moves t q l f r));
           }
 
       pub count-end : b ≡ false → (m : ℕ) → m ≡ n → Counts s at (record { n = m; at = p })
       count-end z m q = record {
         on = k .on;
         within = k .within;
-        moves = λ t q′ l f r. subst (λ (x : ℕ). Reaches s p (some (counted q′ x l))) (sym q) (like p (some (digits q′ n l)) (some (counted q′ n l)) (λ h. (unfold move in rw (no-more h))) (λ h. (unfold ends in refl)) (k .moves t q′ l f r));
+        moves =
+            λ t q′ l f r. subst (λ (x : ℕ). Reaches s p (some (counted q′ x l))) (sym q)
+            (like p (some (digits q′ n l)) (some (counted q′ n l)) (λ h. (unfold move in rw (no-more h))) (λ h. (unfold ends in refl))
+            (k .moves t q′ l f r));
       }
         where
           no-more : p < length s → grows n (classOf (getD s p 0)) (value (getD s p 0)) ≡ false

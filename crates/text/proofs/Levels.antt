@@ -12,10 +12,12 @@ use Rattle.expression.specs.Expression.{Expr, term, one, range}
 use Rattle.expression.specs.Bytes.{bytes}
 use Rattle.text.specs.Classes.{classOf, value, pick, digit, space, amp, bar, lpar, rpar, lbra, rbra, dot}
 use Rattle.text.specs.Text.{Tokens, end, spaced, blank, whole}
-use Rattle.text.specs.Scan.{Frame, Left, Part, alone, from, upto, State, want, bound, digits, counted, dotted, done, fresh, opened, and-to, or-to, finish, shut, anded, ored, move, ends, at-first}
-use Rattle.text.specs.Place.{Reaches, said, fault}
-use Rattle.text.specs.Kept.{counted as Kept·counted, Kept}
-use Rattle.text.specs.Reader.{classAt, standsAt, At, Good, On, Holds, Beside, Puts, Inserts, Skipped, Counts, Needs, Signed, Dotted, Numbered, Ranged, Item, front, Ands, Ors, Whole}
+use Rattle.text.specs.Scan.{Frame, Left, Part, alone, from, upto, State, want, bound, digits, counted, dotted, done, fresh}
+use Rattle.text.specs.Scan.{opened, and-to, or-to, finish, shut, anded, ored, move, ends, at-first, Reaches}
+use Rattle.text.specs.Place.{said, fault}
+use Rattle.text.specs.Kept.{capped, Kept}
+use Rattle.text.specs.Reader.{classAt, standsAt, At, Good, On, Holds, Beside, Appends, Inserts, Skipped, Counts}
+use Rattle.text.specs.Reader.{Needs, Signed, Dotted, Numbered, Ranged, Item, front, Ands, Ors, Whole}
 use Rattle.text.specs.declared.Reading.{Reading}
 use Rattle.text.specs.declared.Count.{Count}
 use Rattle.text.proofs.Laws.{class-not, stands-ok, stands-class, stands-not, like, alike, at-like, at-stop, takes, at-sign, needs-there}
@@ -29,10 +31,15 @@ moved-to g q = record { ok = g .ok; at = q; made = g .made; bytes = g .bytes }
 module _ (s : List ℕ) where
   -- ---- one reading beside another, and one after another
   beside-at : {g r : Reading} → Beside g r → (t : State) → At s g t → At s r t
-  beside-at {g} {r} b t h = subst (λ (k : ℕ). Reaches s k (pick (r .ok) (some t) none)) (sym (b .at)) (subst (λ (z : Bool). Reaches s (g .at) (pick z (some t) none)) (sym (b .ok)) h)
+  beside-at {g} {r} b t h =
+      subst (λ (k : ℕ). Reaches s k (pick (r .ok) (some t) none)) (sym (b .at))
+      (subst (λ (z : Bool). Reaches s (g .at) (pick z (some t) none)) (sym (b .ok)) h)
 
   beside-good : {g r : Reading} → Beside g r → Good s g → Good s r
-  beside-good {g} {r} b h = record { within = omega (arith, b .at, h .within); clear = λ ok. subst (λ (k : ℕ). classAt s k space ≡ false) (sym (b .at)) (h .clear (sym (b .ok) ∙ ok)) }
+  beside-good {g} {r} b h = record {
+    within = omega (arith, b .at, h .within);
+    clear = λ ok. subst (λ (k : ℕ). classAt s k space ≡ false) (sym (b .at)) (h .clear (sym (b .ok) ∙ ok));
+  }
 
   beside-on : {g a r : Reading} → On s g a → Beside a r → On s g r
   beside-on h b = record { on = omega (arith, h .on, b .at); was = λ ok. h .was (sym (b .ok) ∙ ok); good = beside-good b (h .good) }
@@ -56,7 +63,9 @@ module _ (s : List ℕ) where
     sign-past y q k = record {
       on = record { on = omega (arith, k .on); was = λ z. z; good = record { within = k .within; clear = λ _. k .clear } };
       past = λ _. omega (arith, k .on);
-      moves = λ t t′ n st h. let ok = stands-ok s g c b eb y in to-ok g q t′ ok (k .moves t′ st (at-sign s (g .at) c t t′ (stands-class s g c b eb y) (n ok) (from-ok g t ok h)));
+      moves =
+          λ t t′ n st h. let ok = stands-ok s g c b eb y in to-ok g q t′ ok
+          (k .moves t′ st (at-sign s (g .at) c t t′ (stands-class s g c b eb y) (n ok) (from-ok g t ok h)));
       holds = λ w h. h;
     }
 
@@ -82,8 +91,13 @@ module _ (s : List ℕ) where
     needs-first : classAt s k lpar ≡ false → (l : Left) → Needs s k digit (want l) (digits alone (value (getD s k 0)) l)
     needs-first o l = record { byte = λ h. (unfold move in rw (class-not s k space h clear, class-not s k lpar h o)); end = λ _. (unfold ends in refl) }
 
-    needs-rpar : classAt s k amp ≡ false → classAt s k bar ≡ false → (e : Expr) (b : Option Expr) (f : Frame) (o : List Frame) → Needs s k rpar (done e b (f ∷ o)) (done (and-to (f .amps) (or-to b e)) (f .bars) o)
-    needs-rpar a c e b f o = record { byte = λ h. (unfold move in rw (class-not s k space h clear, class-not s k amp h a, class-not s k bar h c)); end = λ _. (unfold ends in refl) }
+    needs-rpar : classAt s k amp ≡ false → classAt s k bar ≡ false
+        → (e : Expr) (b : Option Expr) (f : Frame) (o : List Frame)
+        → Needs s k rpar (done e b (f ∷ o)) (done (and-to (f .amps) (or-to b e)) (f .bars) o)
+    needs-rpar a c e b f o = record {
+      byte = λ h. (unfold move in rw (class-not s k space h clear, class-not s k amp h a, class-not s k bar h c));
+      end = λ _. (unfold ends in refl);
+    }
 
   needs-dotted : (k n i : ℕ) (l : Left) → Needs s k dot (dotted n i l) (bound (upto n i) l)
   needs-dotted k n i l = record { byte = λ h. (unfold move in refl); end = λ _. (unfold ends in refl) }
@@ -95,7 +109,9 @@ module _ (s : List ℕ) where
       on = record { on = omega (arith, d .on .on); was = d .on .was; good = d .on .good };
       moves = λ n i l h. let ok = stands-ok s g dot b eb y in
           d .moves (dotted n i l) (bound (upto n i) l) (λ _. needs-dotted _ n i l) (λ _. (unfold move in refl))
-          (to-ok g (g .at + 1) (dotted n i l) ok (at-sign s (g .at) dot (counted (from n) i l) (dotted n i l) (stands-class s g dot b eb y) (needs-dot (g .at) (good .clear ok) n i l) (from-ok g (counted (from n) i l) ok h)));
+          (to-ok g (g .at + 1) (dotted n i l) ok
+          (at-sign s (g .at) dot (counted (from n) i l) (dotted n i l) (stands-class s g dot b eb y) (needs-dot (g .at) (good .clear ok) n i l)
+          (from-ok g (counted (from n) i l) ok h)));
       holds = λ w h. d .holds w h;
     }
 
@@ -108,7 +124,7 @@ module _ (s : List ℕ) where
 
   -- ---- a number
   module _ (g : Reading) (b : Bool) (eb : b ≡ standsAt s g digit) where
-    pub num-on : b ≡ true → (k : Count) → Counts s (g .at) k → (q : ℕ) → Skipped s (k .at) q → (r : Reading) → Puts (moved-to g q) (k .n) r → Numbered s g r
+    pub num-on : b ≡ true → (k : Count) → Counts s (g .at) k → (q : ℕ) → Skipped s (k .at) q → (r : Reading) → Appends (moved-to g q) (k .n) r → Numbered s g r
     num-on y k ct q sk r p = record {
       on = beside-on (record { on = omega (arith, ct .on, sk .on); was = λ z. z; good = record { within = sk .within; clear = λ _. sk .clear } }) (p .beside);
       n = k .n;
@@ -127,7 +143,8 @@ module _ (s : List ℕ) where
     }
 
   -- ---- the rest of a range
-  pub ranged : (g : Reading) → standsAt s g lbra ≡ true → (a : Reading) → Signed s g lbra a → (b : Reading) → Numbered s a b → (c : Reading) → Dotted s b c → (d : Reading) → Numbered s c d → (r : Reading) → Signed s d rbra r → Ranged s g r
+  pub ranged : (g : Reading) → standsAt s g lbra ≡ true → (a : Reading) → Signed s g lbra a → (b : Reading) → Numbered s a b
+      → (c : Reading) → Dotted s b c → (d : Reading) → Numbered s c d → (r : Reading) → Signed s d rbra r → Ranged s g r
   ranged g y a A b B c C d D r E = record {
     on = then-on (A .on) (then-on (B .on) (then-on (C .on) (then-on (D .on) (E .on))));
     i = B .n;
@@ -137,12 +154,14 @@ module _ (s : List ℕ) where
         (D .moves (bound (upto n (B .n)) l) (upto n (B .n)) l (λ ok. needs-digit _ (C .on .good .clear ok) (upto n (B .n)) l)
         (C .moves n (B .n) l
         (B .moves (bound (from n) l) (from n) l (λ ok. needs-digit _ (A .on .good .clear ok) (from n) l)
-        (A .moves (counted alone n l) (bound (from n) l) (λ ok. needs-there s (g .at) lbra _ _ (stands-class s g lbra true (sym y) refl) (λ _. (unfold move in refl))) (λ _. (unfold move in refl)) h))));
+        (A .moves (counted alone n l) (bound (from n) l)
+        (λ ok. needs-there s (g .at) lbra _ _ (stands-class s g lbra true (sym y) refl) (λ _. (unfold move in refl))) (λ _. (unfold move in refl))
+        h))));
     holds = λ w h. E .holds _ (subst (Holds d) (append-assoc w (B .n ∷ []) (D .n ∷ [])) (D .holds _ (C .holds _ (B .holds w (A .holds w h)))));
   }
 
   -- the bytes made before start there
-  starts : (g : Reading) (w : List ℕ) → g .ok ≡ true → Holds g w → g .made ≡ Kept·counted w
+  starts : (g : Reading) (w : List ℕ) → g .ok ≡ true → Holds g w → g .made ≡ capped w
   starts g w ok h = h ok .count
 
   -- ---- an item
@@ -155,8 +174,11 @@ module _ (s : List ℕ) where
       moves = λ l h. C .moves (done (O .e none) (O .b none) (record { bars = l .bars; amps = l .amps } ∷ l .outer)) (finish l (or-to (O .b none) (O .e none)))
           (λ ok. needs-rpar _ (O .on .good .clear ok) (O .no-amp ok) (O .no-bar ok) _ _ _ _) (λ _. (unfold move in refl))
           (O .moves none (record { bars = l .bars; amps = l .amps } ∷ l .outer)
-          (A .moves (want l) (want (opened l)) (λ ok. needs-there s (g .at) lpar _ _ (stands-class s g lpar b eb y) (λ _. (unfold move in refl))) (λ _. (unfold move in refl)) h));
-      holds = λ w h ok. C .holds _ (O .holds none w (starts g w (A .on .was (O .on .was (C .on .was ok))) h) (subst (Holds a) (sym (append-nil w)) (A .holds w h))) ok;
+          (A .moves (want l) (want (opened l)) (λ ok. needs-there s (g .at) lpar _ _ (stands-class s g lpar b eb y) (λ _. (unfold move in refl)))
+          (λ _. (unfold move in refl)) h));
+      holds =
+          λ w h ok. C .holds _
+          (O .holds none w (starts g w (A .on .was (O .on .was (C .on .was ok))) h) (subst (Holds a) (sym (append-nil w)) (A .holds w h))) ok;
     }
 
     module _ (n : b ≡ false) (a : Reading) (A : Numbered s g a) (u : Bool) (eu : u ≡ standsAt s a lbra) where
@@ -166,7 +188,10 @@ module _ (s : List ℕ) where
       -- a number with no range after it
       as-item : u ≡ false → (l : Left) → At s a (counted alone (A .n) l) → At s a (finish l (term (one (A .n))))
       as-item z l h = at-like s (a .ok) (a .at) (counted alone (A .n) l) (finish l (term (one (A .n))))
-          (λ ok. alike s (a .at) _ _ (λ k. (unfold move in rw (class-not s (a .at) space k (A .on .good .clear ok), class-not s (a .at) lbra k (stands-not s a lbra u eu z ok)))) (λ _. (unfold ends in refl))) h
+          (λ ok.
+          let p = A .on .good .clear ok in
+          let q = stands-not s a lbra u eu z ok in
+          alike s (a .at) _ _ (λ k. (unfold move in rw (class-not s (a .at) space k p, class-not s (a .at) lbra k q))) (λ _. (unfold ends in refl))) h
 
       pub one-number : u ≡ false → (r : Reading) → Inserts a (g .made) 1 r → Item s g r
       one-number z r p = record {
@@ -181,7 +206,9 @@ module _ (s : List ℕ) where
         on = beside-on (then-on (A .on) (C .on)) (p .beside);
         e = term (range (A .n) (C .i) (C .j));
         moves = λ l h. beside-at (p .beside) (finish l (term (range (A .n) (C .i) (C .j)))) (C .moves (A .n) l (to-number l h));
-        holds = λ w h ok. p .holds w (A .n ∷ C .i ∷ C .j ∷ []) (starts g w (A .on .was (C .on .was (sym (p .beside .ok) ∙ ok))) h) (subst (Holds c) (append-assoc w (A .n ∷ []) (C .i ∷ C .j ∷ [])) (C .holds _ (A .holds w h))) ok;
+        holds =
+            λ w h ok. p .holds w (A .n ∷ C .i ∷ C .j ∷ []) (starts g w (A .on .was (C .on .was (sym (p .beside .ok) ∙ ok))) h)
+            (subst (Holds c) (append-assoc w (A .n ∷ []) (C .i ∷ C .j ∷ [])) (C .holds _ (A .holds w h))) ok;
       }
 
   -- ---- items joined by &
@@ -196,7 +223,9 @@ module _ (s : List ℕ) where
   module _ (start : ℕ) (g a : Reading) (A : Item s g a) (b : Bool) (eb : b ≡ standsAt s a amp) where
     -- the bytes after an item, what stands to its left included
     with-left : (x : Option Expr) (v : List ℕ) → Holds g (v ++ front 3 x) → Holds a (v ++ bytes (and-to x (A .e)))
-    with-left x v h = subst (Holds a) (append-assoc v (front 3 x) (bytes (A .e)) ∙ ap (λ (z : List ℕ). v ++ z) (sym (bytes-and x (A .e)))) (A .holds (v ++ front 3 x) h)
+    with-left x v h =
+        subst (Holds a) (append-assoc v (front 3 x) (bytes (A .e)) ∙ ap (λ (z : List ℕ). v ++ z) (sym (bytes-and x (A .e))))
+        (A .holds (v ++ front 3 x) h)
 
     pub and-last : b ≡ false → Ands s start g a
     and-last n = record {
@@ -213,7 +242,8 @@ module _ (s : List ℕ) where
       no-amp = R .no-amp;
       e = λ x. R .e (some (and-to x (A .e)));
       moves = λ z x o h. R .moves z (some (and-to x (A .e))) o (beside-at (D .beside) (want (anded (and-to x (A .e)) z o))
-          (C .moves (done (and-to x (A .e)) z o) (want (anded (and-to x (A .e)) z o)) (λ ok. needs-there s (a .at) amp _ _ (stands-class s a amp b eb y) (λ _. (unfold move in refl))) (λ _. (unfold move in refl))
+          (C .moves (done (and-to x (A .e)) z o) (want (anded (and-to x (A .e)) z o))
+          (λ ok. needs-there s (a .at) amp _ _ (stands-class s a amp b eb y) (λ _. (unfold move in refl))) (λ _. (unfold move in refl))
           (A .moves (record { bars = z; amps = x; outer = o }) h)));
       holds = λ x v f h. R .holds (some (and-to x (A .e))) v f (D .holds v (bytes (and-to x (A .e))) f (C .holds _ (with-left x v h)));
     }
@@ -243,7 +273,8 @@ module _ (s : List ℕ) where
       b = λ x. R .b (some (or-to x (A .e none)));
       e = λ x. R .e (some (or-to x (A .e none)));
       moves = λ x o h. R .moves (some (or-to x (A .e none))) o (beside-at (D .beside) (want (ored (A .e none) x o))
-          (C .moves (done (A .e none) x o) (want (ored (A .e none) x o)) (λ ok. needs-there s (a .at) bar _ _ (stands-class s a bar b eb y) (λ _. (unfold move in refl))) (λ _. (unfold move in refl))
+          (C .moves (done (A .e none) x o) (want (ored (A .e none) x o))
+          (λ ok. needs-there s (a .at) bar _ _ (stands-class s a bar b eb y) (λ _. (unfold move in refl))) (λ _. (unfold move in refl))
           (A .moves x none o h)));
       holds = λ x v f h. R .holds (some (or-to x (A .e none))) v f (D .holds v (bytes (or-to x (A .e none))) f (C .holds _ (with-left-or x v h)));
     }
@@ -253,7 +284,8 @@ module _ (s : List ℕ) where
   further a c b eb y r C = (C .past (sym eb ∙ y), C .on .good .within)
 
   -- and after what was inserted there
-  pub onward : (g a : Reading) → On s g a → (c : ℕ) (b : Bool) → b ≡ standsAt s a c → b ≡ true → (r : Reading) → Signed s a c r → (d : Reading) → Beside r d → (g .at < d .at) × Good s d
+  pub onward : (g a : Reading) → On s g a → (c : ℕ) (b : Bool) → b ≡ standsAt s a c → b ≡ true
+      → (r : Reading) → Signed s a c r → (d : Reading) → Beside r d → (g .at < d .at) × Good s d
   onward g a A c b eb y r C d B = (omega (arith, A .on, C .past (sym eb ∙ y), B .at), beside-good B (C .on .good))
 
   -- ---- a whole text
@@ -270,9 +302,14 @@ module _ (s : List ℕ) where
   none-kept bs = record { count = refl; holds = λ _. refl }
 
   -- after joined items, where none of their signs stands
-  left-over : (ok : Bool) (k : ℕ) (e : Expr) (b : Option Expr) → k < length s → (ok ≡ true → classAt s k space ≡ false) → (ok ≡ true → classAt s k amp ≡ false) → (ok ≡ true → classAt s k bar ≡ false)
+  left-over : (ok : Bool) (k : ℕ) (e : Expr) (b : Option Expr) → k < length s
+      → (ok ≡ true → classAt s k space ≡ false) → (ok ≡ true → classAt s k amp ≡ false)
+      → (ok ≡ true → classAt s k bar ≡ false)
       → Reaches s k (pick ok (some (done e b [])) none) → Reaches s k none
-  left-over true k e b h x y z r = like s k (some (done e b [])) none (λ _. (unfold move in rw (class-not s k space h (x refl), class-not s k amp h (y refl), class-not s k bar h (z refl)) (go (eqb (classOf (getD s k 0)) rpar)))) (λ q. absurd (omega arith)) r
+  left-over true k e b h x y z r =
+      like s k (some (done e b [])) none (λ _.
+      (unfold move in rw (class-not s k space h (x refl), class-not s k amp h (y refl), class-not s k bar h (z refl))
+      (go (eqb (classOf (getD s k 0)) rpar)))) (λ q. absurd (omega arith)) r
     where
       go : (c : Bool) → pick c (shut (or-to b e) []) none ≡ none
       go true = refl
@@ -281,7 +318,10 @@ module _ (s : List ℕ) where
 
   module _ (p : ℕ) (k : Skipped s 0 p) where
     pub read-blank : (bs : List ℕ) → p ≡ length s → Whole s (record { ok = true; at = p; made = 0; bytes = bs })
-    read-blank bs h = record { legal = λ _. ([], blank (all-spaces s (λ j q. k .blank j (omega arith) (omega arith))), none-kept bs); wrong = λ z. absurd (true≢false z) }
+    read-blank bs h = record {
+      legal = λ _. ([], blank (all-spaces s (λ j q. k .blank j (omega arith) (omega arith))), none-kept bs);
+      wrong = λ z. absurd (true≢false z);
+    }
 
     -- the reader's start
     abbrev start-at : List ℕ → Reading
@@ -289,15 +329,21 @@ module _ (s : List ℕ) where
 
     module _ (n : p ≡ length s → ⊥) (bs : List ℕ) (r : Reading) (O : Ors s 0 (start-at bs) r) where
       not-blank : Tokens [] s → ⊥
-      not-blank w = let h : p < length s = omega (arith, k .within) in true≢false (sym (eq-eqb (classOf (getD s p 0)) space (space-at w p h)) ∙ class-not s p space h (k .clear))
+      not-blank w =
+          let h : p < length s = omega (arith, k .within) in
+          true≢false (sym (eq-eqb (classOf (getD s p 0)) space (space-at w p h)) ∙ class-not s p space h (k .clear))
 
       reaches : At s r (done (O .e none) (O .b none) [])
-      reaches = O .moves none [] (k .moves (want fresh) (λ _. (unfold move in refl)) (record { t = want fresh; reached = at-first; byte = λ _. refl; end = λ _. refl }))
+      reaches =
+          O .moves none []
+          (k .moves (want fresh) (λ _. (unfold move in refl)) (record { t = want fresh; reached = at-first; byte = λ _. refl; end = λ _. refl }))
 
       pub read-left : r .at < length s → Whole s (stopped r)
       read-left h = record {
         legal = λ z. absurd (false≢true z);
-        wrong = λ _. fault s (r .at) (O .on .good .within) not-blank (left-over (r .ok) (r .at) (O .e none) (O .b none) h (O .on .good .clear) (O .no-amp) (O .no-bar) reaches);
+        wrong =
+            λ _. fault s (r .at) (O .on .good .within) not-blank
+            (left-over (r .ok) (r .at) (O .e none) (O .b none) h (O .on .good .clear) (O .no-amp) (O .no-bar) reaches);
       }
 
       pub read-end : length s ≤ r .at → Whole s r
@@ -307,5 +353,7 @@ module _ (s : List ℕ) where
           whole (said s (r .at) (done (O .e none) (O .b none) []) (or-to (O .b none) (O .e none)) h (from-ok r _ ok reaches) (unfold ends in refl)),
           O .holds none [] refl (λ _. none-kept bs) ok,
         );
-        wrong = λ z. fault s (r .at) (O .on .good .within) not-blank (subst (λ (b : Bool). Reaches s (r .at) (pick b (some (done (O .e none) (O .b none) [])) none)) z reaches);
+        wrong =
+            λ z. fault s (r .at) (O .on .good .within) not-blank
+            (subst (λ (b : Bool). Reaches s (r .at) (pick b (some (done (O .e none) (O .b none) [])) none)) z reaches);
       }

@@ -1,4 +1,4 @@
--- The class of a byte (01, "In text": each of the 256 byte values has one class: digit, space, one of & | ( ) [ ] ., or other).
+-- The class of a byte (01, "In text": each of the 256 byte values has one class: digit, space, one of & | ( ) [ ] ., or other). Definitions only.
 use mathlib.Core.Bool.{Bool, true, false, _&&_}
 use mathlib.Core.Path.{_≡_}
 use mathlib.Core.List.{List}

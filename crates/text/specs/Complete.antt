@@ -9,9 +9,11 @@ use borrow.Author.Tests.{ne-eqb}
 use Rattle.expression.specs.Expression.{Expr, term, one, range}
 use Rattle.expression.specs.Bytes.{bytes}
 use Rattle.text.specs.Classes.{classOf, value, digit, space, amp, bar, lpar, rpar, lbra, rbra, dot}
-use Rattle.text.specs.Text.{Token, number, sign, dots, Written, as-number, as-sign, as-dots, Tokens, end, spaced, next, Level, item, ands, ors, Reads, single, between, bracket, an-item, and, an-and, or, Says, Gives, blank, whole}
-use Rattle.text.specs.Numbers.{Built, starts, more, built}
-use Rattle.text.specs.Scan.{Frame, Left, Part, alone, from, upto, State, want, bound, digits, counted, dotted, done, fresh, opened, or-to, finish, anded, move, step, ends, go-on, scan}
+use Rattle.text.specs.Text.{Token, number, sign, dots, Written, as-number, as-sign, as-dots, Tokens, end, spaced, next, Level, item, ands}
+use Rattle.text.specs.Text.{ors, Parses, single, between, bracket, an-item, and, an-and, or, Says, TextOf, blank, whole}
+use Rattle.text.specs.Numbers.{built}
+use Rattle.text.specs.Scan.{Frame, Left, Part, alone, from, upto, State, want, bound, digits, counted, dotted, done, fresh}
+use Rattle.text.specs.Scan.{opened, or-to, finish, anded, move, step, ends, go-on, scan, Built, starts, more, Stays}
 
 pub on : (t t′ : State) (x : ℕ) (r : List ℕ) → step t x ≡ some t′ → scan t (x ∷ r) ≡ scan t′ r
 unfolding scan
@@ -56,7 +58,9 @@ settles (next {s = s} (as-dots {x = x} {y = y} h k) w) a p n l = alike _ _ x (y 
 -- a number with no range after it is an item
 item-is : {us : List Token} {s : List ℕ} → Tokens us s → After us → (n : ℕ) (l : Left) → scan (counted alone n l) s ≡ scan (finish l (term (one n))) s
 item-is end a n l = unfold scan ends in refl
-item-is (spaced {x = x} {s = s} h w) a n l = by-class (counted alone n l) (counted alone n l) x space s h (unfold move in refl) ∙ item-is w a n l ∙ sym (by-class (finish l (term (one n))) (finish l (term (one n))) x space s h (unfold move in refl))
+item-is (spaced {x = x} {s = s} h w) a n l =
+    by-class (counted alone n l) (counted alone n l) x space s h (unfold move in refl) ∙ item-is w a n l
+    ∙ sym (by-class (finish l (term (one n))) (finish l (term (one n))) x space s h (unfold move in refl))
 item-is (next (as-number k) w) a n l = absurd a
 item-is (next {s = s} (as-sign {x = x} {c = c} h) w) a n l = alike _ _ x s (unfold move in rw (h, ne-eqb c space (omega arith), ne-eqb c lbra (a .1)))
 item-is (next (as-dots h k) w) a n l = absurd a
@@ -72,10 +76,6 @@ goes s′ h q = record { rest = s′; laid = h; same = q }
 
 and-then : {t t′ t″ : State} {s : List ℕ} {us vs : List Token} → Goes t s t′ us → ((s′ : List ℕ) → Tokens us s′ → Goes t′ s′ t″ vs) → Goes t s t″ vs
 and-then g k = let g′ = k (g .rest) (g .laid) in goes (g′ .rest) (g′ .laid) (g .same ∙ g′ .same)
-
--- at a space the state stays
-abbrev pub Stays : State → Type 0
-Stays t = (d : ℕ) → move t space d ≡ some t
 
 -- spaces before a token
 first : (t : State) → Stays t → {k : Token} {us : List Token} {s : List ℕ} → Tokens (k ∷ us) s
@@ -96,20 +96,25 @@ unfolding move
 two-dots a b l h = let (u, s′, w, hs, q) = first (counted (from a) b l) (λ d. refl) h in goes s′ hs (q ∙ at s′ w)
   where
     at : {u : List ℕ} (s′ : List ℕ) → Written dots u → scan (counted (from a) b l) (u ++ s′) ≡ scan (bound (upto a b) l) s′
-    at s′ (as-dots {x = x} {y = y} j k) = by-class _ (dotted a b l) x dot (y ∷ s′) j (unfold move in refl) ∙ by-class _ (bound (upto a b) l) y dot s′ k (unfold move in refl)
+    at s′ (as-dots {x = x} {y = y} j k) =
+        by-class _ (dotted a b l) x dot (y ∷ s′) j (unfold move in refl) ∙ by-class _ (bound (upto a b) l) y dot s′ k (unfold move in refl)
 
 -- a number, from a state t that takes a digit to the part p
-a-number : (p : Part) (l : Left) (t : State) → Stays t → ((d : ℕ) → move t digit d ≡ some (digits p d l)) → (n : ℕ) {us : List Token} {s : List ℕ} → Tokens (number n ∷ us) s → Apart us → Goes t s (counted p n l) us
+a-number : (p : Part) (l : Left) (t : State) → Stays t → ((d : ℕ) → move t digit d ≡ some (digits p d l))
+    → (n : ℕ) {us : List Token} {s : List ℕ} → Tokens (number n ∷ us) s → Apart us → Goes t s (counted p n l) us
 a-number p l t e f n h a = let (u, s′, w, hs, q) = first t e h in goes s′ hs (q ∙ written s′ w ∙ settles hs a p n l)
   where
     at : {m : ℕ} {u : List ℕ} (s′ : List ℕ) → Built m u → scan t (u ++ s′) ≡ scan (digits p m l) s′
     at s′ (starts x h) = by-class t _ x digit s′ h (f _)
-    at s′ (more {n = m} {u = u} b x g) = ap (scan t) (append-assoc u (x ∷ []) s′) ∙ at (x ∷ s′) b ∙ on (digits p m l) (digits p (10 * m + value x) l) x s′ (unfold move in rw g)
+    at s′ (more {n = m} {u = u} b x g) =
+        ap (scan t) (append-assoc u (x ∷ []) s′) ∙ at (x ∷ s′) b ∙ on (digits p m l) (digits p (10 * m + value x) l) x s′ (unfold move in rw g)
 
     written : {m : ℕ} {u : List ℕ} (s′ : List ℕ) → Written (number m) u → scan t (u ++ s′) ≡ scan (digits p m l) s′
     written s′ (as-number k) = at s′ (built k)
 
-a-range : (a b c : ℕ) (l : Left) {us : List Token} {s : List ℕ} → Tokens (number a ∷ sign lbra ∷ number b ∷ dots ∷ number c ∷ sign rbra ∷ us) s → Goes (want l) s (finish l (term (range a b c))) us
+a-range : (a b c : ℕ) (l : Left) {us : List Token} {s : List ℕ}
+    → Tokens (number a ∷ sign lbra ∷ number b ∷ dots ∷ number c ∷ sign rbra ∷ us) s
+    → Goes (want l) s (finish l (term (range a b c))) us
 unfolding move
 a-range a b c l h =
     and-then (a-number alone l (want l) (λ d. refl) (λ d. refl) a h (lit< tt)) λ s h.
@@ -135,7 +140,7 @@ Claim ors e us s = (o : List Frame) → Ored e o s us
 regroup : (ts : List Token) (k : Token) (vs us : List Token) {s : List ℕ} → Tokens ((ts ++ (k ∷ vs)) ++ us) s → Tokens (ts ++ (k ∷ (vs ++ us))) s
 regroup ts k vs us h = rw append-assoc at h
 
-runs : {k : Level} {ts : List Token} {e : Expr} → Reads k ts e → (us : List Token) → After us → (s : List ℕ) → Tokens (ts ++ us) s → Claim k e us s
+runs : {k : Level} {ts : List Token} {e : Expr} → Parses k ts e → (us : List Token) → After us → (s : List ℕ) → Tokens (ts ++ us) s → Claim k e us s
 unfolding move
 runs (single {n = n}) us a s h = λ l.
     let g = a-number alone l (want l) (λ d. refl) (λ d. refl) n h (apart us a) in
@@ -143,9 +148,10 @@ runs (single {n = n}) us a s h = λ l.
 runs (between {s = x} {i = i} {j = j}) us a s h = λ l. a-range x i j l h
 runs (bracket {ts = ts} {e = e} r) us a s h = λ l.
     and-then (a-sign (want l) (want (opened l)) lpar (λ d. refl) (λ d. refl) h) λ s h.
-    let w = runs r (sign rpar ∷ us) (lit< tt, λ q. absurd (omega arith)) s (regroup ts (sign rpar) [] us h) (record { bars = l .bars; amps = l .amps } ∷ l .outer) in
+    let o : List Frame = record { bars = l .bars; amps = l .amps } ∷ l .outer in
+    let w = runs r (sign rpar ∷ us) (lit< tt, λ q. absurd (omega arith)) s (regroup ts (sign rpar) [] us h) o in
     and-then (w .runs-to) λ s h.
-    a-sign (done (w .a) (w .b) (record { bars = l .bars; amps = l .amps } ∷ l .outer)) (finish l e) rpar (λ d. refl) (λ d. (ap (λ (x : Expr). some (finish l x)) (w .is))) h
+    a-sign (done (w .a) (w .b) o) (finish l e) rpar (λ d. refl) (λ d. (ap (λ (x : Expr). some (finish l x)) (w .is))) h
 runs (an-item r) us a s h = λ b o. runs r us a s h (record { bars = b; amps = none; outer = o })
 runs (and {ts = ts} {us = vs} {a = x} {b = y} r q) us a s h = λ b o.
     and-then (runs r (sign amp ∷ (vs ++ us)) (lit< tt, λ q. absurd (omega arith)) s (regroup ts (sign amp) vs us h) b o) λ s h.
@@ -159,7 +165,8 @@ runs (or {ts = ts} {us = vs} {a = x} {b = y} r q) us a s h = λ o.
       a = y;
       is = refl;
       runs-to = and-then (w .runs-to) λ s h.
-          and-then (a-sign (done (w .a) (w .b) o) (want (record { bars = some x; amps = none; outer = o })) bar (λ d. refl) (λ d. (ap (λ (z : Expr). some (want (record { bars = some z; amps = none; outer = o }))) (w .is))) h) λ s h.
+          let f : Expr → State = λ z. want (record { bars = some z; amps = none; outer = o }) in
+          and-then (a-sign (done (w .a) (w .b) o) (f x) bar (λ d. refl) (λ d. (ap (λ (z : Expr). some (f z)) (w .is))) h) λ s h.
           runs q us a s h (some x) o;
     }
 
@@ -188,7 +195,7 @@ blank-or-whole : {s : List ℕ} {e : Expr} → Tokens [] s → Says s e → ⊥
 blank-or-whole h w = let p = blank-says-nothing h in let q = complete w in let z : _≡_ {A = ℕ} 0 1 = cc in omega arith
 
 -- a text gives one string of bytes
-pub one-reading : {s b c : List ℕ} → Gives s b → Gives s c → b ≡ c
+pub one-reading : {s b c : List ℕ} → TextOf s b → TextOf s c → b ≡ c
 one-reading (blank h) (blank k) = refl
 one-reading (blank h) (whole w) = absurd (blank-or-whole h w)
 one-reading (whole w) (blank h) = absurd (blank-or-whole h w)

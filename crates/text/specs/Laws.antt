@@ -27,7 +27,9 @@ one-output : (s before : List ℕ) → AtMostOne (textMakes s before)
 one-output s before x y (b, g, p) (c, h, q) = p ∙ ap (λ (z : List ℕ). z ++ drop (length z) before) (one-reading g h) ∙ sym q
 
 -- for every text and every output there is one answer
-pub one-text-answer : (s : List ℕ) (room : ℕ) (a b : Answer) → Decides (textConditions s room) (textGrants s) a → Decides (textConditions s room) (textGrants s) b → a ≡ b
+pub one-text-answer : (s : List ℕ) (room : ℕ) (a b : Answer)
+    → Decides (textConditions s room) (textGrants s) a
+    → Decides (textConditions s room) (textGrants s) b → a ≡ b
 one-text-answer s room = one-answer (textConditions s room) (textGrants s) (said 0, (one-place s, (said 0, tt))) (one-count s)
 
 -- and one content of the output after it
@@ -35,7 +37,9 @@ pub one-text-output : (s : List ℕ) (a : Answer) (before x y : List ℕ) → Le
 one-text-output s a before = one-left a (textMakes s before) (one-output s before) before
 
 -- a text's first 513 bytes decide: whoever keeps no more of it has its answer
-pub first-bytes-decide : (s : List ℕ) (room : ℕ) (a : Answer) → Decides (textConditions (take 513 s) room) (textGrants (take 513 s)) a → Decides (textConditions s room) (textGrants s) a
+pub first-bytes-decide : (s : List ℕ) (room : ℕ) (a : Answer)
+    → Decides (textConditions (take 513 s) room) (textGrants (take 513 s)) a
+    → Decides (textConditions s room) (textGrants s) a
 first-bytes-decide s room a d = go (decLt 513 (length s)) d
   where
     long : 513 < length s → Decides (textConditions (take 513 s) room) (textGrants (take 513 s)) a → Decides (textConditions s room) (textGrants s) a
@@ -49,7 +53,9 @@ first-bytes-decide s room a d = go (decLt 513 (length s)) d
     go (no n) d = subst (λ (z : List ℕ). Decides (textConditions z room) (textGrants z) a) (take-all 513 s (omega arith)) d
 
 -- what a grant says
-pub granted-right : (s : List ℕ) (room : ℕ) (a : Answer) → Decides (textConditions s room) (textGrants s) a → Granted a → (length s ≤ longestText) × textGrants s (a .place)
+pub granted-right : (s : List ℕ) (room : ℕ) (a : Answer)
+    → Decides (textConditions s room) (textGrants s) a → Granted a
+    → (length s ≤ longestText) × textGrants s (a .place)
 granted-right s room a (inl p) g = absurd (omega (arith, p .1, g))
 granted-right s room a (inr (h, inl p)) g = absurd (omega (arith, p .1, g))
 granted-right s room a (inr (h, inr (r, inl p))) g = absurd (omega (arith, p .1, g))

@@ -8,7 +8,7 @@ use lib.Dec.{leb, ltb, eqb, lit<}
 use borrow.Author.Tests.{lt-ltb, leb-true, ltb-true, eqb-true}
 use Rattle.text.specs.Classes.{classOf, value, pick, digit, space, amp, bar, lpar, rpar, lbra, rbra, dot, other}
 use Rattle.text.specs.Text.{Number, one-digit, two-digits}
-use Rattle.text.specs.Scan.{below, grows}
+use Rattle.text.specs.Scan.{below, grows, Built, starts, more}
 
 pub both : (a b : Bool) → (a && b) ≡ true → (a ≡ true) × (b ≡ true)
 both true b e = (refl, e)
@@ -17,7 +17,17 @@ both false b e = absurd (false≢true e)
 -- a digit is one of 48 to 57, so it counts 0 to 9
 pub bounds : (x : ℕ) → classOf x ≡ digit → (48 ≤ x) × (x ≤ 57)
 unfolding classOf
-bounds x e = let w = both (leb 48 x) (leb x 57) (go (leb 48 x && leb x 57) _ (pos (eqb x 32) space _ (lit< tt) (pos (eqb x 38) amp _ (lit< tt) (pos (eqb x 124) bar _ (lit< tt) (pos (eqb x 40) lpar _ (lit< tt) (pos (eqb x 41) rpar _ (lit< tt) (pos (eqb x 91) lbra _ (lit< tt) (pos (eqb x 93) rbra _ (lit< tt) (pos (eqb x 46) dot other (lit< tt) (lit< tt))))))))) e) in (leb-true _ _ (w .0), leb-true _ _ (w .1))
+bounds x e =
+    let w = both (leb 48 x) (leb x 57) (go (leb 48 x && leb x 57) _
+    (pos (eqb x 32) space _ (lit< tt)
+    (pos (eqb x 38) amp _ (lit< tt)
+    (pos (eqb x 124) bar _ (lit< tt)
+    (pos (eqb x 40) lpar _ (lit< tt)
+    (pos (eqb x 41) rpar _ (lit< tt)
+    (pos (eqb x 91) lbra _ (lit< tt)
+    (pos (eqb x 93) rbra _ (lit< tt)
+    (pos (eqb x 46) dot other (lit< tt) (lit< tt))))))))) e) in
+    (leb-true _ _ (w .0), leb-true _ _ (w .1))
   where
     -- no other class is 0
     pos : (b : Bool) (m n : ℕ) → 0 < m → 0 < n → 0 < pick b m n
@@ -32,12 +42,7 @@ pub low : (x : ℕ) → classOf x ≡ digit → value x < 10
 unfolding value
 low x e = let b = bounds x e in omega arith
 
--- ---- a number digit by digit
-pub data Built : ℕ → List ℕ → Type 0 where
-  starts : (x : ℕ) → classOf x ≡ digit → Built (value x) (x ∷ [])
-  more : {n : ℕ} {u : List ℕ} → Built n u → (x : ℕ) → grows n (classOf x) (value x) ≡ true → Built (10 * n + value x) (u ++ (x ∷ []))
-
--- every number is built so
+-- every number is built digit by digit
 pub built : {n : ℕ} {u : List ℕ} → Number n u → Built n u
 built (one-digit {x = x} h) = starts x h
 built (two-digits {x = x} {y = y} h k j) =

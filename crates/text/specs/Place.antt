@@ -11,8 +11,9 @@ use Rattle.answer.specs.Faults.{Begins, FaultAt}
 use Rattle.expression.specs.Expression.{Expr}
 use Rattle.expression.specs.Bytes.{bytes}
 use Rattle.text.specs.Classes.{classOf, value, space}
-use Rattle.text.specs.Text.{Tokens, end, spaced, Says, Gives, blank, whole, Legal}
-use Rattle.text.specs.Scan.{Frame, Left, Part, alone, from, upto, State, want, bound, digits, counted, dotted, done, fresh, move, step, ends, go-on, scan, Reached, at-first, by-byte}
+use Rattle.text.specs.Text.{Tokens, end, spaced, Says, TextOf, blank, whole, Legal}
+use Rattle.text.specs.Scan.{Frame, Left, Part, alone, from, upto, State, want, bound, digits, counted, dotted, done}
+use Rattle.text.specs.Scan.{fresh, move, step, ends, go-on, scan, Reached, at-first, by-byte, Reaches}
 use Rattle.text.specs.Complete.{on, complete}
 use Rattle.text.specs.Sound.{sound}
 
@@ -49,7 +50,8 @@ unfolding move classOf value
 counted-lives alone n l = alone-lives n (l .bars) (l .amps) (l .outer)
 counted-lives (upto s i) n l = upto-lives s i n l
 counted-lives (from s) n l =
-    further _ (dotted s n l) 46 refl (further _ (bound (upto s n) l) 46 refl (further _ (digits (upto s n) 0 l) 48 refl (digits-live _ 0 l (upto-lives s n 0 l))))
+    further _ (dotted s n l) 46 refl
+    (further _ (bound (upto s n) l) 46 refl (further _ (digits (upto s n) 0 l) 48 refl (digits-live _ 0 l (upto-lives s n 0 l))))
 
 bound-lives : (p : Part) (l : Left) → Lives (bound p l)
 unfolding move classOf value
@@ -95,21 +97,7 @@ blank-fresh (by-byte {u = u} {t = t} {t′ = t′} x h e) r w =
     let f = stays-fresh x (all-spaces u x r w′) in
     cc
 
--- ---- the first k bytes of s were read, and at the byte k, or at the end of s, it goes on as from the state o; nowhere where there is none
-abbrev pub next-of : Option State → ℕ → Option State
-next-of none x = none
-next-of (some t) x = step t x
-
-abbrev pub end-of : Option State → Option Expr
-end-of none = none
-end-of (some t) = ends t
-
-pub record Reaches (s : List ℕ) (k : ℕ) (o : Option State) : Type 0 where
-  pub t : State
-  pub reached : Reached (take k s) t
-  pub byte : k < length s → step t (getD s k 0) ≡ next-of o (getD s k 0)
-  pub end : length s ≤ k → ends t ≡ end-of o
-
+-- ---- where the scan stands
 nothing-there : {e : Expr} → _≡_ {A = Option Expr} none (some e) → ⊥
 nothing-there q = let z : _≡_ {A = ℕ} 0 1 = cc in omega arith
 
@@ -122,13 +110,13 @@ module _ (s : List ℕ) (k : ℕ) where
   pub fault : k ≤ length s → (Tokens [] s → ⊥) → Reaches s k none → FaultAt Legal s k
   fault h n r = record { within = h; before = lives (r .t) (take k s) (r .reached); there = λ q w. at-byte q (w .0) (w .1); at-end = λ q w. at-last q (w .1) }
     where
-      at-last : k ≡ length s → {b : List ℕ} → Gives s b → ⊥
+      at-last : k ≡ length s → {b : List ℕ} → TextOf s b → ⊥
       at-last q (blank w) = n w
       at-last q (whole w) =
           let e : take k s ++ [] ≡ s = append-nil (take k s) ∙ take-all k s (omega arith) in
           nothing-there (sym (r .end (omega arith)) ∙ sym (to-end (r .reached)) ∙ ap (scan (want fresh)) e ∙ complete w)
 
-      stops : (x : ℕ) (rest : List ℕ) → step (r .t) x ≡ none → {b : List ℕ} → Gives (take k s ++ (x ∷ rest)) b → ⊥
+      stops : (x : ℕ) (rest : List ℕ) → step (r .t) x ≡ none → {b : List ℕ} → TextOf (take k s ++ (x ∷ rest)) b → ⊥
       stops x rest e (whole w) = nothing-there (sym (no-byte (r .t) x rest e) ∙ sym (reads-on (r .reached) (x ∷ rest)) ∙ complete w)
       stops x rest e (blank w) =
           let q = blank-fresh (r .reached) (x ∷ rest) w in
@@ -138,5 +126,6 @@ module _ (s : List ℕ) (k : ℕ) where
 
       at-byte : k < length s → (rest : List ℕ) → Legal (take (k + 1) s ++ rest) → ⊥
       at-byte q rest (b, g) =
-          let e : take (k + 1) s ++ rest ≡ take k s ++ (getD s k 0 ∷ rest) = ap (λ (z : List ℕ). z ++ rest) (ap (λ (z : ℕ). take z s) (add-one k) ∙ take-suc s k 0 q) ∙ append-assoc (take k s) (getD s k 0 ∷ []) rest in
-          stops (getD s k 0) rest (r .byte q) (subst (λ (z : List ℕ). Gives z b) e g)
+          let d : take (k + 1) s ≡ take k s ++ (getD s k 0 ∷ []) = ap (λ (z : ℕ). take z s) (add-one k) ∙ take-suc s k 0 q in
+          let e = ap (λ (z : List ℕ). z ++ rest) d ∙ append-assoc (take k s) (getD s k 0 ∷ []) rest in
+          stops (getD s k 0) rest (r .byte q) (subst (λ (z : List ℕ). TextOf z b) e g)

@@ -1,4 +1,4 @@
--- What the reader's functions say to each other: each has taken the scan from one state to another, and kept the bytes that it made.
+-- What the reader's functions say to each other: each takes the scan from one state to another, and keeps what it makes. A device of the proofs.
 use mathlib.Core.Path.{_≡_}
 use mathlib.Core.Bool.{Bool, true, false, _&&_}
 use mathlib.Core.Option.{Option, none, some}
@@ -10,11 +10,10 @@ use Rattle.answer.specs.Faults.{FaultAt}
 use Rattle.expression.specs.Expression.{Expr, term, range}
 use Rattle.expression.specs.Bytes.{bytes}
 use Rattle.text.specs.Classes.{classOf, value, pick, digit, space, amp, bar}
-use Rattle.text.specs.Text.{Gives, Legal}
-use Rattle.text.specs.Scan.{Frame, Left, Part, alone, from, upto, State, want, bound, digits, counted, done, or-to, finish, grows, step, ends}
-use Rattle.text.specs.Complete.{Stays}
-use Rattle.text.specs.Place.{Reaches}
-use Rattle.text.specs.Kept.{counted as Kept·counted, Kept}
+use Rattle.text.specs.Text.{TextOf, Legal}
+use Rattle.text.specs.Scan.{Frame, Left, Part, alone, from, upto, State, want, bound, digits}
+use Rattle.text.specs.Scan.{counted, done, or-to, finish, grows, step, ends, Stays, Reaches}
+use Rattle.text.specs.Kept.{capped, Kept}
 use Rattle.text.specs.declared.Reading.{Reading}
 use Rattle.text.specs.declared.Count.{Count}
 
@@ -53,13 +52,14 @@ pub record Beside (g r : Reading) : Type 0 where
   pub ok : r .ok ≡ g .ok
   pub at : r .at ≡ g .at
 
-pub record Puts (g : Reading) (x : ℕ) (r : Reading) : Type 0 where
+-- x after all bytes made
+pub record Appends (g : Reading) (x : ℕ) (r : Reading) : Type 0 where
   pub beside : Beside g r
   pub holds : (w : List ℕ) → Holds g w → Holds r (w ++ (x ∷ []))
 
 pub record Inserts (g : Reading) (start x : ℕ) (r : Reading) : Type 0 where
   pub beside : Beside g r
-  pub holds : (v w : List ℕ) → start ≡ Kept·counted v → Holds g (v ++ w) → Holds r (v ++ (x ∷ w))
+  pub holds : (v w : List ℕ) → start ≡ capped v → Holds g (v ++ w) → Holds r (v ++ (x ∷ w))
 
 -- ---- what each function has read
 pub record Skipped (s : List ℕ) (at q : ℕ) : Type 0 where
@@ -76,7 +76,9 @@ pub record Digit (s : List ℕ) (p d : ℕ) : Type 0 where
 pub record Counts (s : List ℕ) (at : ℕ) (r : Count) : Type 0 where
   pub on : at < r .at
   pub within : r .at ≤ length s
-  pub moves : (t : State) (p : Part) (l : Left) → step t (getD s at 0) ≡ some (digits p (value (getD s at 0)) l) → Reaches s at (some t) → Reaches s (r .at) (some (counted p (r .n) l))
+  pub moves : (t : State) (p : Part) (l : Left)
+      → step t (getD s at 0) ≡ some (digits p (value (getD s at 0)) l) → Reaches s at (some t)
+      → Reaches s (r .at) (some (counted p (r .n) l))
 
 -- at the place k the scan goes on from t to t′ by a byte of class c, and by no other
 pub record Needs (s : List ℕ) (k c : ℕ) (t t′ : State) : Type 0 where
@@ -97,7 +99,9 @@ pub record Dotted (s : List ℕ) (g r : Reading) : Type 0 where
 pub record Numbered (s : List ℕ) (g r : Reading) : Type 0 where
   pub on : On s g r
   pub n : ℕ
-  pub moves : (t : State) (p : Part) (l : Left) → (g .ok ≡ true → Needs s (g .at) digit t (digits p (value (getD s (g .at) 0)) l)) → At s g t → At s r (counted p n l)
+  pub moves : (t : State) (p : Part) (l : Left)
+      → (g .ok ≡ true → Needs s (g .at) digit t (digits p (value (getD s (g .at) 0)) l))
+      → At s g t → At s r (counted p n l)
   pub holds : (w : List ℕ) → Holds g w → Holds r (w ++ (n ∷ []))
 
 pub record Ranged (s : List ℕ) (g r : Reading) : Type 0 where
@@ -124,7 +128,7 @@ pub record Ands (s : List ℕ) (start : ℕ) (g r : Reading) : Type 0 where
   pub no-amp : r .ok ≡ true → classAt s (r .at) amp ≡ false
   pub e : Option Expr → Expr
   pub moves : (b a : Option Expr) (o : List Frame) → At s g (want (record { bars = b; amps = a; outer = o })) → At s r (done (e a) b o)
-  pub holds : (a : Option Expr) (v : List ℕ) → start ≡ Kept·counted v → Holds g (v ++ front 3 a) → Holds r (v ++ bytes (e a))
+  pub holds : (a : Option Expr) (v : List ℕ) → start ≡ capped v → Holds g (v ++ front 3 a) → Holds r (v ++ bytes (e a))
 
 -- for whatever b is joined by | to the first of them
 pub record Ors (s : List ℕ) (start : ℕ) (g r : Reading) : Type 0 where
@@ -134,9 +138,9 @@ pub record Ors (s : List ℕ) (start : ℕ) (g r : Reading) : Type 0 where
   pub b : Option Expr → Option Expr
   pub e : Option Expr → Expr
   pub moves : (x : Option Expr) (o : List Frame) → At s g (want (record { bars = x; amps = none; outer = o })) → At s r (done (e x) (b x) o)
-  pub holds : (x : Option Expr) (v : List ℕ) → start ≡ Kept·counted v → Holds g (v ++ front 4 x) → Holds r (v ++ bytes (or-to (b x) (e x)))
+  pub holds : (x : Option Expr) (v : List ℕ) → start ≡ capped v → Holds g (v ++ front 4 x) → Holds r (v ++ bytes (or-to (b x) (e x)))
 
 -- the bytes of a legal text, or the place of the first fault
 pub record Whole (s : List ℕ) (r : Reading) : Type 0 where
-  pub legal : r .ok ≡ true → (b : List ℕ) × Gives s b × Kept (r .made) (r .bytes) b
+  pub legal : r .ok ≡ true → (b : List ℕ) × TextOf s b × Kept (r .made) (r .bytes) b
   pub wrong : r .ok ≡ false → FaultAt Legal s (r .at)

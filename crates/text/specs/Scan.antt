@@ -1,10 +1,11 @@
--- A text byte by byte: what may come next. No promise cites this; it is how the laws of legal text are proved.
+-- A text byte by byte: what may come next, and how far a text was read. A device of the proofs.
 use mathlib.Core.Path.{_≡_}
-use mathlib.Core.Bool.{Bool, _&&_}
+use mathlib.Core.Bool.{Bool, true, _&&_}
 use mathlib.Core.Option.{Option, none, some}
 use mathlib.Core.List.{List, [], _∷_, _++_}
-use Prim.Native.Nat.{ℕ, _+_, _*_}
+use Prim.Native.Nat.{ℕ, _+_, _*_, _<_, _≤_}
 use lib.Dec.{ltb, eqb}
+use lib.ListN.{length, take, getD}
 use Rattle.expression.specs.Expression.{Expr, term, one, range, _AND_, _OR_}
 use Rattle.text.specs.Classes.{classOf, value, pick, digit, space, amp, bar, lpar, rpar, lbra, rbra, dot}
 
@@ -80,6 +81,11 @@ below = 100
 abbrev pub grows : ℕ → ℕ → ℕ → Bool
 grows n c d = eqb c digit && (ltb 0 n && ltb (10 * n + d) below)
 
+-- a number digit by digit
+pub data Built : ℕ → List ℕ → Type 0 where
+  starts : (x : ℕ) → classOf x ≡ digit → Built (value x) (x ∷ [])
+  more : {n : ℕ} {u : List ℕ} → Built n u → (x : ℕ) → grows n (classOf x) (value x) ≡ true → Built (10 * n + value x) (u ++ (x ∷ []))
+
 unfoldable pub move : State → ℕ → ℕ → Option State
 move (want l) c d = pick (eqb c space) (some (want l)) (pick (eqb c lpar) (some (want (opened l))) (pick (eqb c digit) (some (digits alone d l)) none))
 move (bound p l) c d = pick (eqb c space) (some (bound p l)) (pick (eqb c digit) (some (digits p d l)) none)
@@ -90,6 +96,10 @@ move (done e b o) c d = pick (eqb c space) (some (done e b o)) (afterItem e b o 
 
 abbrev pub step : State → ℕ → Option State
 step t x = move t (classOf x) (value x)
+
+-- at a space the state stays
+abbrev pub Stays : State → Type 0
+Stays t = (d : ℕ) → move t space d ≡ some t
 
 -- what a text that ends there says
 abbrev pub itemEnd : Expr → Option Expr → List Frame → Option Expr
@@ -122,3 +132,18 @@ scan t (x ∷ r) = go-on (step t x) (λ t′. scan t′ r)
 pub data Reached : List ℕ → State → Type 0 where
   at-first : Reached [] (want fresh)
   by-byte : {u : List ℕ} {t t′ : State} (x : ℕ) → Reached u t → step t x ≡ some t′ → Reached (u ++ (x ∷ [])) t′
+
+-- ---- the first k bytes of s were read, and at the byte k, or at the end of s, it goes on as from the state o; nowhere where there is none
+abbrev pub next-of : Option State → ℕ → Option State
+next-of none x = none
+next-of (some t) x = step t x
+
+abbrev pub end-of : Option State → Option Expr
+end-of none = none
+end-of (some t) = ends t
+
+pub record Reaches (s : List ℕ) (k : ℕ) (o : Option State) : Type 0 where
+  pub t : State
+  pub reached : Reached (take k s) t
+  pub byte : k < length s → step t (getD s k 0) ≡ next-of o (getD s k 0)
+  pub end : length s ≤ k → ends t ≡ end-of o

@@ -9,9 +9,11 @@ use lib.Dec.{eqb}
 use borrow.Author.Tests.{eqb-true}
 use Rattle.expression.specs.Expression.{Expr, term, one}
 use Rattle.text.specs.Classes.{classOf, value, pick, digit, space, amp, bar, lpar, rpar, lbra, rbra, dot}
-use Rattle.text.specs.Text.{Number, one-digit, Token, number, sign, dots, Written, as-number, as-sign, as-dots, Tokens, end, spaced, next, Level, item, ands, ors, Reads, single, between, bracket, an-item, and, an-and, or, Says}
+use Rattle.text.specs.Text.{Number, one-digit, Token, number, sign, dots, Written, as-number, as-sign, as-dots, Tokens, end, spaced, next}
+use Rattle.text.specs.Text.{Level, item, ands, ors, Parses, single, between, bracket, an-item, and, an-and, or, Says}
 use Rattle.text.specs.Numbers.{longer}
-use Rattle.text.specs.Scan.{Frame, Left, Part, alone, from, upto, State, want, bound, digits, counted, dotted, done, fresh, and-to, or-to, shut, anded, ored, afterItem, afterNumber, grows, move, step, itemEnd, numberEnd, ends, Reached, at-first, by-byte}
+use Rattle.text.specs.Scan.{Frame, Left, Part, alone, from, upto, State, want, bound, digits, counted, dotted, done, fresh, and-to, or-to, shut, anded}
+use Rattle.text.specs.Scan.{ored, afterItem, afterNumber, grows, move, step, itemEnd, numberEnd, ends, Reached, at-first, by-byte}
 
 -- ---- one space more, one token more
 space-more : {ts : List Token} {u : List ℕ} (x : ℕ) → classOf x ≡ space → Tokens ts u → Tokens ts (u ++ (x ∷ []))
@@ -27,20 +29,21 @@ token-more (next e h) k = rw append-assoc (next e (token-more h k))
 -- ---- what was read before: nothing, or what c joins to what comes
 data Before (k : Level) (c : ℕ) : Option Expr → List Token → Type 0 where
   nothing : Before k c none []
-  joined : {ts : List Token} {e : Expr} → Reads k ts e → Before k c (some e) (ts ++ (sign c ∷ []))
+  joined : {ts : List Token} {e : Expr} → Parses k ts e → Before k c (some e) (ts ++ (sign c ∷ []))
 
-ands-of : {a : Option Expr} {e : Expr} {ts us : List Token} → Before ands amp a ts → Reads item us e → Reads ands (ts ++ us) (and-to a e)
+ands-of : {a : Option Expr} {e : Expr} {ts us : List Token} → Before ands amp a ts → Parses item us e → Parses ands (ts ++ us) (and-to a e)
 ands-of nothing r = an-item r
 ands-of (joined q) r = rw append-assoc (and q r)
 
-ors-of : {b : Option Expr} {e : Expr} {ts us : List Token} → Before ors bar b ts → Reads ands us e → Reads ors (ts ++ us) (or-to b e)
+ors-of : {b : Option Expr} {e : Expr} {ts us : List Token} → Before ors bar b ts → Parses ands us e → Parses ors (ts ++ us) (or-to b e)
 ors-of nothing r = an-and r
 ors-of (joined q) r = rw append-assoc (or q r)
 
 -- the parentheses that are open
 data Outer : List Frame → List Token → Type 0 where
   outermost : Outer [] []
-  within : {f : Frame} {o : List Frame} {t0 t1 t2 : List Token} → Outer o t0 → Before ors bar (f .bars) t1 → Before ands amp (f .amps) t2 → Outer (f ∷ o) (t0 ++ (t1 ++ (t2 ++ (sign lpar ∷ []))))
+  within : {f : Frame} {o : List Frame} {t0 t1 t2 : List Token} → Outer o t0 → Before ors bar (f .bars) t1
+      → Before ands amp (f .amps) t2 → Outer (f ∷ o) (t0 ++ (t1 ++ (t2 ++ (sign lpar ∷ []))))
 
 -- the tokens before an item
 record Wants (l : Left) (ts : List Token) : Type 0 where
@@ -59,11 +62,19 @@ record Does (e : Expr) (b : Option Expr) (o : List Frame) (ts : List Token) : Ty
   us : List Token
   outer : Outer o t0
   bars : Before ors bar b t1
-  reads : Reads ands us e
+  reads : Parses ands us e
   is : ts ≡ t0 ++ (t1 ++ us)
 
-finished : {l : Left} {e : Expr} {ts us : List Token} → Wants l ts → Reads item us e → Does (and-to (l .amps) e) (l .bars) (l .outer) (ts ++ us)
-finished {us = us} w r = record { t0 = w .t0; t1 = w .t1; us = w .t2 ++ us; outer = w .outer; bars = w .bars; reads = ands-of (w .amps) r; is = rw (w .is) (simp append-assoc) }
+finished : {l : Left} {e : Expr} {ts us : List Token} → Wants l ts → Parses item us e → Does (and-to (l .amps) e) (l .bars) (l .outer) (ts ++ us)
+finished {us = us} w r = record {
+  t0 = w .t0;
+  t1 = w .t1;
+  us = w .t2 ++ us;
+  outer = w .outer;
+  bars = w .bars;
+  reads = ands-of (w .amps) r;
+  is = rw (w .is) (simp append-assoc);
+}
 
 -- the tokens of an item of which the part p is to come
 abbrev plus : Part → List Token → List Token
@@ -128,29 +139,53 @@ module _ (x : ℕ) (u : List ℕ) (t : State) where
 
   -- after an item
   on-amp : {ts : List Token} (e : Expr) (b : Option Expr) (o : List Frame) → Does e b o ts → Wants (anded e b o) (ts ++ (sign amp ∷ []))
-  on-amp e b o d = record { t0 = d .t0; t1 = d .t1; t2 = d .us ++ (sign amp ∷ []); outer = d .outer; bars = d .bars; amps = joined (d .reads); is = rw (d .is) (simp append-assoc) }
+  on-amp e b o d = record {
+    t0 = d .t0;
+    t1 = d .t1;
+    t2 = d .us ++ (sign amp ∷ []);
+    outer = d .outer;
+    bars = d .bars;
+    amps = joined (d .reads);
+    is = rw (d .is) (simp append-assoc);
+  }
 
   on-bar : {ts : List Token} (e : Expr) (b : Option Expr) (o : List Frame) → Does e b o ts → Wants (ored e b o) (ts ++ (sign bar ∷ []))
-  on-bar e b o d = record { t0 = d .t0; t1 = (d .t1 ++ d .us) ++ (sign bar ∷ []); t2 = []; outer = d .outer; bars = joined (ors-of (d .bars) (d .reads)); amps = nothing; is = rw (d .is) (simp (append-assoc, append-nil)) }
+  on-bar e b o d = record {
+    t0 = d .t0;
+    t1 = (d .t1 ++ d .us) ++ (sign bar ∷ []);
+    t2 = [];
+    outer = d .outer;
+    bars = joined (ors-of (d .bars) (d .reads));
+    amps = nothing;
+    is = rw (d .is) (simp (append-assoc, append-nil));
+  }
 
-  on-shut : (e : Expr) {o : List Frame} {t0 us : List Token} → Outer o t0 → Reads ors us e → Tokens ((t0 ++ us) ++ (sign rpar ∷ [])) u′ → shut e o ≡ some t → Means t u′
+  on-shut : (e : Expr) {o : List Frame} {t0 us : List Token} → Outer o t0 → Parses ors us e
+      → Tokens ((t0 ++ us) ++ (sign rpar ∷ [])) u′ → shut e o ≡ some t → Means t u′
   on-shut e outermost r h q = never q
   on-shut e {us = us} (within {f = f} {t0 = t0} {t1 = t1} {t2 = t2} o b a) r h q = to u′ q (
     (t0 ++ (t1 ++ t2)) ++ (sign lpar ∷ (us ++ (sign rpar ∷ []))),
     subst (λ (z : List Token). Tokens z u′) (simp append-assoc) h,
-    finished {l = record { bars = f .bars; amps = f .amps; outer = _ }} (record { t0 = t0; t1 = t1; t2 = t2; outer = o; bars = b; amps = a; is = refl }) (bracket r),
+    finished {l = record { bars = f .bars; amps = f .amps; outer = _ }}
+        (record { t0 = t0; t1 = t1; t2 = t2; outer = o; bars = b; amps = a; is = refl }) (bracket r),
   )
 
   on-item : (e : Expr) (b : Option Expr) (o : List Frame) (ts : List Token) → Tokens ts u → Does e b o ts → afterItem e b o (classOf x) ≡ some t → Means t u′
   on-item e b o ts h d q =
       by-pick (eqb (classOf x) amp) q (λ c q. to u′ q (record { ts = ts ++ (sign amp ∷ []); laid = a-sign amp c h; wants = on-amp e b o d })) λ q.
       by-pick (eqb (classOf x) bar) q (λ c q. to u′ q (record { ts = ts ++ (sign bar ∷ []); laid = a-sign bar c h; wants = on-bar e b o d })) λ q.
-      by-pick (eqb (classOf x) rpar) q (λ c q. on-shut (or-to b e) (d .outer) (ors-of (d .bars) (d .reads)) (subst (λ (z : List Token). Tokens (z ++ (sign rpar ∷ [])) u′) (d .is) (a-sign rpar c h)) q) never
+      by-pick (eqb (classOf x) rpar) q (λ c q.
+      let h′ = subst (λ (z : List Token). Tokens (z ++ (sign rpar ∷ [])) u′) (d .is) (a-sign rpar c h) in
+      on-shut (or-to b e) (d .outer) (ors-of (d .bars) (d .reads)) h′ q) never
 
   -- after a number
   on-number : (p : Part) (n : ℕ) (l : Left) → Counted p n l u → afterNumber p n l (classOf x) ≡ some t → Means t u′
   on-number alone n l h q =
-      by-pick (eqb (classOf x) lbra) q (λ c q. to u′ q (record { ts = h .ts; laid = subst (λ (z : List Token). Tokens z u′) (append-assoc (h .ts) _ _) (a-sign lbra c (h .laid)); wants = h .wants })) λ q.
+      by-pick (eqb (classOf x) lbra) q (λ c q. to u′ q (record {
+        ts = h .ts;
+        laid = subst (λ (z : List Token). Tokens z u′) (append-assoc (h .ts) _ _) (a-sign lbra c (h .laid));
+        wants = h .wants;
+      })) λ q.
       on-item (and-to (l .amps) (term (one n))) (l .bars) (l .outer) (h .ts ++ (number n ∷ [])) (h .laid) (finished (h .wants) single) q
   on-number (from s) n l h q =
       by-pick (eqb (classOf x) dot) q (λ c q. to u′ q (record { v = u; x = x; number-before = h; class = eqb-true _ dot c; is = refl })) never
@@ -161,7 +196,9 @@ module _ (x : ℕ) (u : List ℕ) (t : State) where
         finished (h .wants) between,
       )) never
 
-  on-counted : (p : Part) (n : ℕ) (l : Left) → Counted p n l u → pick (eqb (classOf x) space) (some (counted p n l)) (afterNumber p n l (classOf x)) ≡ some t → Means t u′
+  on-counted : (p : Part) (n : ℕ) (l : Left) → Counted p n l u
+      → pick (eqb (classOf x) space) (some (counted p n l)) (afterNumber p n l (classOf x)) ≡ some t
+      → Means t u′
   on-counted p n l h q =
       by-pick (eqb (classOf x) space) q (λ c q. to u′ q (record { ts = h .ts; laid = a-space c (h .laid); wants = h .wants })) λ q.
       on-number p n l h q
@@ -179,14 +216,28 @@ module _ (x : ℕ) (u : List ℕ) (t : State) where
       by-pick (eqb (classOf x) lpar) q (λ c q. to u′ q (let w = h .wants in record {
         ts = h .ts ++ (sign lpar ∷ []);
         laid = a-sign lpar c (h .laid);
-        wants = record { t0 = w .t0 ++ (w .t1 ++ (w .t2 ++ (sign lpar ∷ []))); t1 = []; t2 = []; outer = within (w .outer) (w .bars) (w .amps); bars = nothing; amps = nothing; is = rw (w .is) (simp (append-assoc, append-nil)) };
+        wants = record {
+          t0 = w .t0 ++ (w .t1 ++ (w .t2 ++ (sign lpar ∷ [])));
+          t1 = [];
+          t2 = [];
+          outer = within (w .outer) (w .bars) (w .amps);
+          bars = nothing;
+          amps = nothing;
+          is = rw (w .is) (simp (append-assoc, append-nil));
+        };
       })) λ q.
       by-pick (eqb (classOf x) digit) q (λ c q. to u′ q (a-digit alone l h c)) never
   step-sound (bound p l) h q =
       by-pick (eqb (classOf x) space) q (λ c q. to u′ q (record { ts = h .ts; laid = a-space c (h .laid); wants = h .wants })) λ q.
       by-pick (eqb (classOf x) digit) q (λ c q. to u′ q (a-digit p l h c)) never
   step-sound (digits p n l) h q =
-      by-pick (grows n (classOf x) (value x)) q (λ c q. to u′ q (record { v = h .v; w = h .w ++ (x ∷ []); wanting = h .wanting; written = longer (h .written) x c; is = rw (h .is) (append-assoc (h .v) (h .w) (x ∷ [])) })) λ q.
+      by-pick (grows n (classOf x) (value x)) q (λ c q. to u′ q (record {
+        v = h .v;
+        w = h .w ++ (x ∷ []);
+        wanting = h .wanting;
+        written = longer (h .written) x c;
+        is = rw (h .is) (append-assoc (h .v) (h .w) (x ∷ []));
+      })) λ q.
       on-counted p n l (settled p n l h) q
   step-sound (counted p n l) h q = on-counted p n l h q
   step-sound (dotted s i l) h q =
@@ -208,8 +259,9 @@ module _ (u : List ℕ) (s : Expr) where
   not-there : {P : Type 0} → _≡_ {A = Option Expr} none (some s) → P
   not-there e = let z : _≡_ {A = ℕ} 0 1 = cc in absurd (omega arith)
 
-  outer-end : (e : Expr) (b : Option Expr) {o : List Frame} {t0 us : List Token} → Outer o t0 → Reads ors us (or-to b e) → Tokens (t0 ++ us) u → itemEnd e b o ≡ some s → Says u s
-  outer-end e b {us = us} outermost r h q = let p : or-to b e ≡ s = cc in (us, h, subst (Reads ors us) p r)
+  outer-end : (e : Expr) (b : Option Expr) {o : List Frame} {t0 us : List Token} → Outer o t0
+      → Parses ors us (or-to b e) → Tokens (t0 ++ us) u → itemEnd e b o ≡ some s → Says u s
+  outer-end e b {us = us} outermost r h q = let p : or-to b e ≡ s = cc in (us, h, subst (Parses ors us) p r)
   outer-end e b (within o c a) r h q = not-there q
 
   item-end : (e : Expr) (b : Option Expr) (o : List Frame) (ts : List Token) → Tokens ts u → Does e b o ts → itemEnd e b o ≡ some s → Says u s

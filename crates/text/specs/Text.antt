@@ -34,24 +34,24 @@ pub data Level : Type 0 where
 
 -- items joined by &, those joined by |; & binds tighter; both group to the left.
 -- An item is a number, number[number..number], or parentheses round a whole text again, which may not be blank there
-pub data Reads : Level → List Token → Expr → Type 0 where
-  single : {n : ℕ} → Reads item (number n ∷ []) (term (one n))
-  between : {s i j : ℕ} → Reads item (number s ∷ sign lbra ∷ number i ∷ dots ∷ number j ∷ sign rbra ∷ []) (term (range s i j))
-  bracket : {ts : List Token} {e : Expr} → Reads ors ts e → Reads item (sign lpar ∷ (ts ++ (sign rpar ∷ []))) e
-  an-item : {ts : List Token} {e : Expr} → Reads item ts e → Reads ands ts e
-  and : {ts us : List Token} {a b : Expr} → Reads ands ts a → Reads item us b → Reads ands (ts ++ (sign amp ∷ us)) (a AND b)
-  an-and : {ts : List Token} {e : Expr} → Reads ands ts e → Reads ors ts e
-  or : {ts us : List Token} {a b : Expr} → Reads ors ts a → Reads ands us b → Reads ors (ts ++ (sign bar ∷ us)) (a OR b)
+pub data Parses : Level → List Token → Expr → Type 0 where
+  single : {n : ℕ} → Parses item (number n ∷ []) (term (one n))
+  between : {s i j : ℕ} → Parses item (number s ∷ sign lbra ∷ number i ∷ dots ∷ number j ∷ sign rbra ∷ []) (term (range s i j))
+  bracket : {ts : List Token} {e : Expr} → Parses ors ts e → Parses item (sign lpar ∷ (ts ++ (sign rpar ∷ []))) e
+  an-item : {ts : List Token} {e : Expr} → Parses item ts e → Parses ands ts e
+  and : {ts us : List Token} {a b : Expr} → Parses ands ts a → Parses item us b → Parses ands (ts ++ (sign amp ∷ us)) (a AND b)
+  an-and : {ts : List Token} {e : Expr} → Parses ands ts e → Parses ors ts e
+  or : {ts us : List Token} {a b : Expr} → Parses ors ts a → Parses ands us b → Parses ors (ts ++ (sign bar ∷ us)) (a OR b)
 
 -- the text s says the expression e
 abbrev pub Says : List ℕ → Expr → Type 0
-Says s e = (ts : List Token) × Tokens ts s × Reads ors ts e
+Says s e = (ts : List Token) × Tokens ts s × Parses ors ts e
 
--- the text s gives the bytes b; text of spaces only, or none, gives length 0
-pub data Gives : List ℕ → List ℕ → Type 0 where
-  blank : {s : List ℕ} → Tokens [] s → Gives s []
-  whole : {s : List ℕ} {e : Expr} → Says s e → Gives s (bytes e)
+-- s is a text of the bytes b; text of spaces only, or none, gives length 0
+pub data TextOf : List ℕ → List ℕ → Type 0 where
+  blank : {s : List ℕ} → Tokens [] s → TextOf s []
+  whole : {s : List ℕ} {e : Expr} → Says s e → TextOf s (bytes e)
 
 -- legal text, of any length and with any number of bytes
 abbrev pub Legal : List ℕ → Type 0
-Legal s = (b : List ℕ) × Gives s b
+Legal s = (b : List ℕ) × TextOf s b

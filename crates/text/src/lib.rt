@@ -9,7 +9,8 @@ ghost use Rattle.text.specs.Turn.{textConditions, textGrants, textMakes}
 ghost use Rattle.text.specs.Classes.{Tabled, digit as Classes·digit, lbra as Classes·lbra};
 ghost use Rattle.text.specs.Scan.{below};
 ghost use Rattle.text.specs.Kept.{Moved};
-ghost use Rattle.text.specs.Reader.{classAt, standsAt, growsAt, Skipped, Digit, Counts, Good, Puts, Inserts, Signed, Dotted, Numbered, Ranged, Item, Ands, Ors, Whole};
+ghost use Rattle.text.specs.Reader.{classAt, standsAt, growsAt, Skipped, Digit, Counts, Good, Appends, Inserts};
+ghost use Rattle.text.specs.Reader.{Signed, Dotted, Numbered, Ranged, Item, Ands, Ors, Whole};
 
 mod classes;
 
@@ -130,7 +131,7 @@ fn digits(t: &[u8], s: &[u8], at: usize) -> Count
 
 // x after all bytes made.
 fn put(g: Reading, x: u8) -> Reading
-    ensures { λ r. ⌜ Puts g x r ⌝ }
+    ensures { λ r. ⌜ Appends g x r ⌝ }
 {
     let mut r = g;
     let n = g.made;

@@ -10,15 +10,16 @@ use borrow.Author.Tests.{eq-eqb, ne-eqb}
 use Rattle.answer.specs.declared.Answer.{Answer}
 use Rattle.answer.specs.Answers.{Decides, Granted, Leaves}
 use Rattle.expression.specs.Bytes.{longest}
-use Rattle.text.specs.Text.{Gives}
+use Rattle.text.specs.Text.{TextOf}
 use Rattle.text.specs.Turn.{textConditions, textGrants, textMakes}
 use Rattle.text.specs.Complete.{one-reading}
 use Rattle.text.specs.Laws.{first-bytes-decide, granted-right}
 use Rattle.lines.specs.Lines.{Fills, Held, Collected}
 use Rattle.lines.specs.declared.Part.{Part}
-use Rattle.turn.specs.Printed.{Prints, madeBy}
+use Rattle.turn.specs.Printed.{PrintsAnswer, madeBy}
 
-module _ (n : ℕ) (kept before bytes : List ℕ) (a : Answer) (D : Decides (textConditions (take n kept) longest) (textGrants (take n kept)) a) (L : Leaves a (textMakes (take n kept) before) before bytes) where
+module _ (n : ℕ) (kept before bytes : List ℕ) (a : Answer) (D : Decides (textConditions (take n kept) longest) (textGrants (take n kept)) a)
+    (L : Leaves a (textMakes (take n kept) before) before bytes) where
   -- a text that is granted is not cut
   whole : (w : List ℕ) → Held n kept w → Granted a → take n kept ≡ w
   whole w h g =
@@ -26,22 +27,29 @@ module _ (n : ℕ) (kept before bytes : List ℕ) (a : Answer) (D : Decides (tex
       let e = ap length (h .is) ∙ length-take 513 w in
       h .is ∙ take-all 513 w (omega arith)
 
-  shown : Granted a → Gives (take n kept) (take (a .place) bytes)
+  shown : Granted a → TextOf (take n kept) (take (a .place) bytes)
   shown g = go (granted-right (take n kept) longest a D g .1) (L .on-grant g)
     where
-      go : textGrants (take n kept) (a .place) → textMakes (take n kept) before bytes → Gives (take n kept) (take (a .place) bytes)
+      go : textGrants (take n kept) (a .place) → textMakes (take n kept) before bytes → TextOf (take n kept) (take (a .place) bytes)
       go (b, x, p) (c, y, q) =
-          let e : c ≡ take (a .place) bytes = sym (ap (λ (z : List ℕ). take (a .place) z) q ∙ ap (λ (z : ℕ). take z (c ++ drop (length c) before)) (p ∙ ap length (one-reading x y)) ∙ take-append-seam c (drop (length c) before)) in
-          subst (Gives (take n kept)) e y
+          let e : c ≡ take (a .place) bytes =
+          sym
+          (ap (λ (z : List ℕ). take (a .place) z) q
+          ∙ ap (λ (z : ℕ). take z (c ++ drop (length c) before)) (p ∙ ap length (one-reading x y))
+          ∙ take-append-seam c (drop (length c) before)) in
+          subst (TextOf (take n kept)) e y
 
-  pub prints-it : (k : ℕ) → k ≡ madeBy a → (d e : List ℕ) (r : ℕ) → Fills a (take k bytes) d e r → Prints n kept d e r
+  pub prints-it : (k : ℕ) → k ≡ madeBy a → (d e : List ℕ) (r : ℕ) → Fills a (take k bytes) d e r → PrintsAnswer n kept d e r
   prints-it k m d e r f = record {
     line = f .line;
     prints = λ w h. record {
       answer = a;
       bytes = take k bytes;
       decides = first-bytes-decide w longest a (subst (λ (z : List ℕ). Decides (textConditions z longest) (textGrants z) a) (h .is) D);
-      made = λ g. subst (λ (z : List ℕ). Gives z (take k bytes)) (whole w h g) (subst (λ (z : ℕ). Gives (take n kept) (take z bytes)) (sym (m ∙ ap (λ (b : Bool). cond b (a .place) 0) (eq-eqb (a .number) 0 g))) (shown g));
+      made =
+          λ g. subst (λ (z : List ℕ). TextOf z (take k bytes)) (whole w h g)
+          (subst (λ (z : ℕ). TextOf (take n kept) (take z bytes)) (sym (m ∙ ap (λ (b : Bool). cond b (a .place) 0) (eq-eqb (a .number) 0 g)))
+          (shown g));
       none = λ g. ap (λ (z : ℕ). take z bytes) (m ∙ ap (λ (b : Bool). cond b (a .place) 0) (ne-eqb (a .number) 0 g));
       line-is = f .is-line;
     };
@@ -58,7 +66,8 @@ goes-on input n before r after c h = go (r .ended) refl
     go false e = omega (arith, c .unfinished e .1)
 
 -- no more than 513 bytes are kept
-pub few-kept : (input : List ℕ) (n : ℕ) (before : List ℕ) (r : Part) (after : List ℕ) → Collected input n before r after → n ≤ 513 → length before ≡ 513 → r .n ≤ 513
+pub few-kept : (input : List ℕ) (n : ℕ) (before : List ℕ) (r : Part) (after : List ℕ)
+    → Collected input n before r after → n ≤ 513 → length before ≡ 513 → r .n ≤ 513
 few-kept input n before r after c h l =
     let e : length (take n before) ≡ n = length-take-le n before (omega arith) in
     let k = c .held (take n before) (record { count = omega arith; is = sym (take-all 513 (take n before) (omega arith)) }) .count in
@@ -71,7 +80,9 @@ pub record Answering (input line : List ℕ) (k from : ℕ) : Type 0 where
   pub few : k ≤ 513
 
 -- a part of what is left takes some of it
-pub next-place : (input : List ℕ) (from k : ℕ) (line : List ℕ) (r : Part) (after : List ℕ) → Collected (take (length input - from) (drop from input)) k line r after → from < length input → (from < from + r .next) × (from + r .next ≤ length input)
+pub next-place : (input : List ℕ) (from k : ℕ) (line : List ℕ) (r : Part) (after : List ℕ)
+    → Collected (take (length input - from) (drop from input)) k line r after → from < length input
+    → (from < from + r .next) × (from + r .next ≤ length input)
 next-place input from k line r after c h =
     let d = length-drop from input in
     let e = length-take-le (length input - from) (drop from input) (omega arith) in

@@ -13,7 +13,10 @@ use Rattle.lines.specs.Laws.{one-line}
 use Rattle.turn.specs.Printed.{Printed}
 
 pub one-print : {w l m : List ℕ} → Printed w l → Printed w m → l ≡ m
-one-print {w} {l} {m} x y = one-line (x .line-is) (subst (λ (b : List ℕ). Line (x .answer) b m) (sym (bytes (ℕ-discrete (x .answer .number) 0))) (subst (λ (a : Answer). Line a (y .bytes) m) (sym same) (y .line-is)))
+one-print {w} {l} {m} x y =
+    one-line (x .line-is)
+    (subst (λ (b : List ℕ). Line (x .answer) b m) (sym (bytes (ℕ-discrete (x .answer .number) 0)))
+    (subst (λ (a : Answer). Line a (y .bytes) m) (sym same) (y .line-is)))
   where
     same : x .answer ≡ y .answer
     same = one-text-answer w longest (x .answer) (y .answer) (x .decides) (y .decides)

@@ -1,4 +1,4 @@
--- What the program prints for a line of its input.
+-- What the program prints for a line of its input. Definitions only.
 use mathlib.Core.Path.{_≡_}
 use mathlib.Core.Bool.{cond}
 use mathlib.Core.List.{List, [], _++_}
@@ -8,7 +8,7 @@ use lib.ListN.{length, drop}
 use Rattle.answer.specs.declared.Answer.{Answer}
 use Rattle.answer.specs.Answers.{Decides, Granted}
 use Rattle.expression.specs.Bytes.{longest}
-use Rattle.text.specs.Text.{Gives}
+use Rattle.text.specs.Text.{TextOf}
 use Rattle.text.specs.Turn.{textConditions, textGrants}
 use Rattle.lines.specs.Lines.{Line, Held}
 
@@ -17,12 +17,12 @@ pub record Printed (w line : List ℕ) : Type 0 where
   pub answer : Answer
   pub bytes : List ℕ
   pub decides : Decides (textConditions w longest) (textGrants w) answer
-  pub made : Granted answer → Gives w bytes
+  pub made : Granted answer → TextOf w bytes
   pub none : (Granted answer → ⊥) → bytes ≡ []
   pub line-is : Line answer bytes line
 
 -- for whatever line of input is held, its printed line fills the first r bytes of an output; the rest keeps its content
-pub record Prints (n : ℕ) (kept before after : List ℕ) (r : ℕ) : Type 0 where
+pub record PrintsAnswer (n : ℕ) (kept before after : List ℕ) (r : ℕ) : Type 0 where
   pub line : List ℕ
   pub prints : (w : List ℕ) → Held n kept w → Printed w line
   pub fits : r ≤ length after

@@ -2,7 +2,7 @@
 ghost use mathlib.Core.Path.{_≡_};
 ghost use Prim.Native.Nat.{_≤_};
 ghost use lib.ListN.{length};
-ghost use Rattle.turn.specs.Printed.{Prints, madeBy};
+ghost use Rattle.turn.specs.Printed.{PrintsAnswer, madeBy};
 
 // How many bytes of a line are kept, and whether there may be more input.
 struct Left {
@@ -20,7 +20,7 @@ fn made(a: answer::Answer) -> usize
 // The line that is printed for the first n bytes that are kept of a line.
 fn turned(line: &[u8], n: usize, out: &mut [u8]) -> usize
     requires { ⌜ (n ≤ length (now line)) × (186 ≤ length (now out)) ⌝ }
-    ensures { λ r. ⌜ Prints n (now (line .entry)) (now (out .entry)) (now (out .exit)) r ⌝ }
+    ensures { λ r. ⌜ PrintsAnswer n (now (line .entry)) (now (out .entry)) (now (out .exit)) r ⌝ }
 {
     let mut bytes = [0u8; 48];
     let a = text::turn(&line[..n], &mut bytes);

@@ -35,7 +35,8 @@ returns c = λ s x.
     let a = c .before .before .before .args in
     let stage = c .before .before .row-answer in
     let not-granted = not-then-false (c .before .granted .ensures) (not-true _ (c .if1 .taken)) in
-    stands (rowConditions s (a .slot) (a .file) (a .mode) (a .mode)) (mediated s (a .slot) (a .file) (a .mode) ∷ []) (stage .result) (stage .ensures s x) not-granted
+    stands (rowConditions s (a .slot) (a .file) (a .mode) (a .mode)) (mediated s (a .slot) (a .file) (a .mode) ∷ [])
+    (stage .result) (stage .ensures s x) not-granted
 
 mediates-requires : tie.Need-mediates-requires
 mediates-requires c κs =

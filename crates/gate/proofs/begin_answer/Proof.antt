@@ -37,8 +37,8 @@ of-requires-3 c κs = search needs
 returns-3 : tie.Need-returns-3
 returns-3 c = λ file s x.
     let taken = not-then-false (c .before .before .is-free .ensures) (not-true _ (c .before .if3 .taken)) in
-    inr (x .says .0 (not-false _ (c .before .before .before .before .before .if1 .left)), inr (omega arith,
-    inl (refused (λ e. taken (hold-seen x ∙ e)) (c .of3 .ensures))))
+    let fine = x .says .0 (not-false _ (c .before .before .before .before .before .if1 .left)) in
+    inr (fine, inr (omega arith, inl (refused (λ e. taken (hold-seen x ∙ e)) (c .of3 .ensures))))
 
 of-requires-4 : tie.Need-of-requires-4
 of-requires-4 c κs = search needs
@@ -46,8 +46,8 @@ of-requires-4 c κs = search needs
 returns-4 : tie.Need-returns-4
 returns-4 c = λ file s x.
     let free = c .before .before .before .before .is-free .ensures .0 (not-false _ (c .before .before .before .if3 .left)) in
-    inr (x .says .0 (not-false _ (c .before .before .before .before .before .before .before .if1 .left)), inr (omega arith, inr (sym (hold-seen x) ∙ free,
-    inl (refused (λ h. omega (arith, x .nroles-is)) (c .of4 .ensures)))))
+    let fine = x .says .0 (not-false _ (c .before .before .before .before .before .before .before .if1 .left)) in
+    inr (fine, inr (omega arith, inr (sym (hold-seen x) ∙ free, inl (refused (λ h. omega (arith, x .nroles-is)) (c .of4 .ensures)))))
 
 of-requires-5 : tie.Need-of-requires-5
 of-requires-5 c κs = search needs
@@ -55,8 +55,8 @@ of-requires-5 c κs = search needs
 returns-5 : tie.Need-returns-5
 returns-5 c = λ file s x.
     let free = c .before .before .before .before .is-free .ensures .0 (not-false _ (c .before .before .before .if3 .left)) in
-    inr (x .says .0 (not-false _ (c .before .before .before .before .before .before .before .if1 .left)), inr (omega arith, inr (sym (hold-seen x) ∙ free,
-    inr (omega (arith, x .nroles-is), granted-here (c .of5 .ensures)))))
+    let fine = x .says .0 (not-false _ (c .before .before .before .before .before .before .before .if1 .left)) in
+    inr (fine, inr (omega arith, inr (sym (hold-seen x) ∙ free, inr (omega (arith, x .nroles-is), granted-here (c .of5 .ensures)))))
 
 pub begin-answer-spec : {M : Type 1} → statement M
 begin-answer-spec =

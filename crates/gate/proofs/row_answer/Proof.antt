@@ -21,7 +21,9 @@ abbrev rest : tie.Start → State → List Condition
 rest c s = let a = c .args in filePresent s (a .file) ∷ modeKnown (a .mode) ∷ rowPassed s (a .slot) (a .file) (a .row) ∷ []
 
 -- past the first test the stage before has granted, and so its conditions hold
-passed : (c : tie.Else1) (s : State) → let a = c .before .before .before .args in Examines s (a .slot) (a .file) (a .seen) → AllHold (sessionConditions s (a .slot))
+passed : (c : tie.Else1) (s : State)
+    → let a = c .before .before .before .args in Examines s (a .slot) (a .file) (a .seen)
+    → AllHold (sessionConditions s (a .slot))
 passed c s x =
     let a = c .before .before .before .args in
     let stage = c .before .before .session-answer in

@@ -37,8 +37,8 @@ of-requires-3 c κs = search needs
 returns-3 : tie.Need-returns-3
 returns-3 c = λ file s x.
     let free = c .before .before .is-free .ensures .0 (c .before .if3 .taken) in
-    inr (x .says .0 (not-false _ (c .before .before .before .before .before .if1 .left)), inr (omega arith,
-    inl (refused (λ t. t (sym (hold-seen x) ∙ free)) (c .of3 .ensures))))
+    let fine = x .says .0 (not-false _ (c .before .before .before .before .before .if1 .left)) in
+    inr (fine, inr (omega arith, inl (refused (λ t. t (sym (hold-seen x) ∙ free)) (c .of3 .ensures))))
 
 of-requires-4 : tie.Need-of-requires-4
 of-requires-4 c κs = search needs
@@ -46,7 +46,8 @@ of-requires-4 c κs = search needs
 returns-4 : tie.Need-returns-4
 returns-4 c = λ file s x.
     let taken = not-then-false (c .before .before .is-free .ensures) (c .before .if3 .left) in
-    inr (x .says .0 (not-false _ (c .before .before .before .before .before .if1 .left)), inr (omega arith, inr ((λ e. taken (hold-seen x ∙ e)), granted-here (c .of4 .ensures))))
+    let fine = x .says .0 (not-false _ (c .before .before .before .before .before .if1 .left)) in
+    inr (fine, inr (omega arith, inr ((λ e. taken (hold-seen x ∙ e)), granted-here (c .of4 .ensures))))
 
 pub session-answer-spec : {M : Type 1} → statement M
 session-answer-spec =

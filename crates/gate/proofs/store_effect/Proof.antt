@@ -13,10 +13,15 @@ granted-requires : tie.Need-granted-requires
 granted-requires c κs = search needs
 
 file-place-requires : tie.Need-file-place-requires
-file-place-requires c κs = let p = c .before .before .before .before .before .pre in (p .1 (c .before .granted .ensures .0 (c .if1 .taken)) .0, omega (arith, p .0))
+file-place-requires c κs =
+    let p = c .before .before .before .before .before .pre in
+    (p .1 (c .before .granted .ensures .0 (c .if1 .taken)) .0, omega (arith, p .0))
 
 put-pair-requires : tie.Need-put-pair-requires
-put-pair-requires c κs = let p = c .before .before .before .before .before .before .pre in let w = p .1 (c .before .before .granted .ensures .0 (c .before .if1 .taken)) in (omega (arith, c .file-place .ensures, w .0, p .0), w .1, w .2)
+put-pair-requires c κs =
+    let p = c .before .before .before .before .before .before .pre in
+    let w = p .1 (c .before .before .granted .ensures .0 (c .before .if1 .taken)) in
+    (omega (arith, c .file-place .ensures, w .0, p .0), w .1, w .2)
 
 file-effect-requires : tie.Need-file-effect-requires
 file-effect-requires c κs = search needs
@@ -34,7 +39,10 @@ file-effect-requires-2 : tie.Need-file-effect-requires-2
 file-effect-requires-2 c κs = search needs
 
 returns-2 : tie.Need-returns-2
-returns-2 c = record { granted = λ g. absurd (not-then-false (c .before .before .granted .ensures) (c .before .if1 .left) g); refused = λ n. c .file-effect2 .ensures }
+returns-2 c = record {
+  granted = λ g. absurd (not-then-false (c .before .before .granted .ensures) (c .before .if1 .left) g);
+  refused = λ n. c .file-effect2 .ensures;
+}
 
 pub store-effect-spec : {M : Type 1} → statement M
 store-effect-spec =

@@ -41,7 +41,12 @@ loop-less : tie.Need-loop-less Inv-loop μ-loop
 loop-less c = omega arith
 
 loop-again : tie.Need-loop-again Inv-loop μ-loop
-loop-again c = collect-more _ _ _ _ _ _ (c .before .before .before .before .before .before .before .before .loop .inv) (c .before .before .before .before .before .before .before .loop-test .taken) (c .before .before .before .before .before .if1 .left) _ _ (c .before .before .keep .ensures)
+loop-again c =
+    let c₂ = c .before .before in
+    let c₅ = c₂ .before .before .before in
+    let c₇ = c₅ .before .before in
+    let c₈ = c₇ .before in
+    collect-more _ _ _ _ _ _ (c₈ .loop .inv) (c₇ .loop-test .taken) (c₅ .if1 .left) _ _ (c₂ .keep .ensures)
 
 same-length-2 : tie.Need-same-length-2 Inv-loop μ-loop
 same-length-2 c = c .before .loop .inv .long

@@ -1,4 +1,4 @@
--- `glyph` meets its contract. Assumes nothing.
+-- `glyph` meets its contract: a digit below ten, and a letter from ten on. Assumes nothing.
 use borrow.Author.Tests.{lt-ltb, le-ltb}
 use borrow.Author.Needs.{needs}
 use Rattle.lines.proofs.glyph.Statement.{statement}

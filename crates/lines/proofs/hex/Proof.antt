@@ -23,7 +23,13 @@ same-length : tie.Need-same-length
 same-length c = search needs
 
 returns : tie.Need-returns
-returns c = three-written (c .before .before .before .before .before .before .before .before .before .before .before .before .put .ensures) (c .before .before .before .before .before .before .before .put2 .ensures) (c .before .before .put3 .ensures) (c .before .before .before .before .before .before .before .before .glyph .ensures) (c .before .before .before .glyph2 .ensures)
+returns c =
+    let c₂ = c .before .before in
+    let c₃ = c₂ .before in
+    let c₇ = c₃ .before .before .before .before in
+    let c₈ = c₇ .before in
+    let c₁₂ = c₈ .before .before .before .before in
+    three-written (c₁₂ .put .ensures) (c₇ .put2 .ensures) (c₂ .put3 .ensures) (c₈ .glyph .ensures) (c₃ .glyph2 .ensures)
 
 pub hex-spec : {M : Type 1} → statement M
 hex-spec =

@@ -1,4 +1,4 @@
--- `keep` meets its contract. Assumes nothing.
+-- `keep` meets its contract: the byte is added while there is room, else the line is full. Assumes nothing.
 use Rattle.lines.proofs.Laws.{keep-room, keep-full}
 use borrow.Author.Needs.{needs}
 use Rattle.lines.proofs.keep.Statement.{statement}

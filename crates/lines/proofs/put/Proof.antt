@@ -1,4 +1,4 @@
--- `put` meets its contract. Assumes nothing.
+-- `put` meets its contract: one byte is set, and all others stay. Assumes nothing.
 use Rattle.lines.proofs.Laws.{one-written}
 use borrow.Author.Needs.{needs}
 use Rattle.lines.proofs.put.Statement.{statement}

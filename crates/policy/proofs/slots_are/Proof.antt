@@ -1,4 +1,5 @@
--- `policy::slots_are` meets its contract: the flag says of every slot passed that the role it holds is below the count. The measure is what is left of them. Assumes nothing.
+-- `policy::slots_are` meets its contract: the flag says of every slot passed that the role it holds
+-- is below the count. The measure is what is left of them. Assumes nothing.
 use mathlib.Core.Path.{_≡_}
 use Prim.Native.Nat.{ℕ, _≤_, _-_}
 use native.Mathlib.Omega.{arith}

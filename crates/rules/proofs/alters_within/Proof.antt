@@ -20,7 +20,11 @@ part-requires-2 c κs = search needs
 returns : tie.Need-returns
 returns c =
     let a = c .before .before .before .before .args in
-    altered-iff (a .old .has) (a .new .has) (marked (a .b .has)) (marked (c .before .before .before .union .result .has)) (marked (c .before .before .union2 .result .has)) (c .before .before .before .union .ensures) (c .before .before .union2 .ensures) (c .before .part .result) (c .part2 .result) (c .before .part .ensures) (c .part2 .ensures)
+    let kept = c .before .before .before .union in
+    let known = c .before .before .union2 in
+    let p = c .before .part in
+    altered-iff (a .old .has) (a .new .has) (marked (a .b .has)) (marked (kept .result .has)) (marked (known .result .has))
+    (kept .ensures) (known .ensures) (p .result) (c .part2 .result) (p .ensures) (c .part2 .ensures)
 
 pub alters-within-spec : {M : Type 1} → statement M
 alters-within-spec =

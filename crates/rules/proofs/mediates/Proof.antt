@@ -19,13 +19,19 @@ file-place-requires : tie.Need-file-place-requires
 file-place-requires c κs = search needs
 
 file-set-requires : tie.Need-file-set-requires
-file-set-requires c κs = let p = c .before .before .before .before .pre in (p .ready, omega (arith, c .file-place .ensures), odd-part (p .file) (c .file-place .result) (omega (arith, c .file-place .ensures)) (omega (arith, c .file-place .ensures)))
+file-set-requires c κs =
+    let p = c .before .before .before .before .pre in
+    let at = c .file-place in
+    (p .ready, omega (arith, at .ensures), odd-part (p .file) (at .result) (omega (arith, at .ensures)) (omega (arith, at .ensures)))
 
 file-place-requires-2 : tie.Need-file-place-requires-2
 file-place-requires-2 c κs = search needs
 
 file-set-requires-2 : tie.Need-file-set-requires-2
-file-set-requires-2 c κs = let p = c .before .before .before .before .before .before .pre in (p .ready, omega (arith, c .file-place2 .ensures), odd-part (p .file) (c .file-place2 .result) (omega (arith, c .file-place2 .ensures)) (omega (arith, c .file-place2 .ensures)))
+file-set-requires-2 c κs =
+    let p = c .before .before .before .before .before .before .pre in
+    let at = c .file-place2 in
+    (p .ready, omega (arith, at .ensures), odd-part (p .file) (at .result) (omega (arith, at .ensures)) (omega (arith, at .ensures)))
 
 sets-fit-requires : tie.Need-sets-fit-requires
 sets-fit-requires c κs = search needs
@@ -34,7 +40,9 @@ returns-2 : tie.Need-returns-2
 returns-2 c =
     let e = rw (c .before .before .before .before .file-place .ensures) at (c .before .before .before .file-set .ensures) in
     let g = rw (c .before .before .file-place2 .ensures) at (c .before .file-set2 .ensures) in
-    iff-trans (c .sets-fit .ensures) (same-mediates (c .before .before .before .before .before .before .role-set .ensures) (c .before .before .before .before .before .role-set2 .ensures) e g)
+    let m1 = c .before .before .before .before .before .before .role-set .ensures in
+    let m2 = c .before .before .before .before .before .role-set2 .ensures in
+    iff-trans (c .sets-fit .ensures) (same-mediates m1 m2 e g)
 
 pub mediates-spec : {M : Type 1} → statement M
 mediates-spec =

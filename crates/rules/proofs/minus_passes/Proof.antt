@@ -29,17 +29,21 @@ file-place-requires-2 : tie.Need-file-place-requires-2
 file-place-requires-2 c κs = search needs
 
 file-set-requires : tie.Need-file-set-requires
-file-set-requires c κs = let p = c .before .before .before .before .before .before .pre in rw (c .file-place2 .ensures) (p .0 .ready, omega arith, p .0 .file .g _ (p .1))
+file-set-requires c κs =
+    let p = c .before .before .before .before .before .before .pre in
+    rw (c .file-place2 .ensures) (p .0 .ready, omega arith, p .0 .file .g _ (p .1))
 
 apart-requires : tie.Need-apart-requires
 apart-requires c κs = search needs
 
 returns-2 : tie.Need-returns-2
 returns-2 c =
-    let minus = rw (c .before .before .before .before .before .before .before .role-place .ensures) at (c .before .before .before .before .before .before .role-set .ensures) in
+    let c₆ = c .before .before .before .before .before .before in
+    let minus = rw (c₆ .before .role-place .ensures) at (c₆ .role-set .ensures) in
     let test = rw (c .before .before .before .before .before .file-place .ensures) at (c .before .before .before .before .meets-t2 .ensures) in
     let g = rw (c .before .before .file-place2 .ensures) at (c .before .file-set .ensures) in
-    iff-trans (c .apart .ensures) (iff-trans (same-apart minus g) ((λ w. ((λ m. not-then-false test (c .before .before .before .if1 .left) (same-t2 _ _ _ minus _ .1 m)), w)), λ w. w .1))
+    let unmet = not-then-false test (c .before .before .before .if1 .left) in
+    iff-trans (c .apart .ensures) (iff-trans (same-apart minus g) ((λ w. ((λ m. unmet (same-t2 _ _ _ minus _ .1 m)), w)), λ w. w .1))
 
 pub minus-passes-spec : {M : Type 1} → statement M
 minus-passes-spec =

@@ -30,14 +30,17 @@ file-place-requires-2 : tie.Need-file-place-requires-2
 file-place-requires-2 c κs = search needs
 
 file-set-requires : tie.Need-file-set-requires
-file-set-requires c κs = let p = c .before .before .before .before .before .before .pre in rw (c .file-place2 .ensures) (p .0 .ready, omega arith, p .0 .file .e _ (p .1))
+file-set-requires c κs =
+    let p = c .before .before .before .before .before .before .pre in
+    rw (c .file-place2 .ensures) (p .0 .ready, omega arith, p .0 .file .e _ (p .1))
 
 part-requires : tie.Need-part-requires
 part-requires c κs = search needs
 
 returns-2 : tie.Need-returns-2
 returns-2 c =
-    let plus = rw (c .before .before .before .before .before .before .before .role-place .ensures) at (c .before .before .before .before .before .before .role-set .ensures) in
+    let c₆ = c .before .before .before .before .before .before in
+    let plus = rw (c₆ .before .role-place .ensures) at (c₆ .role-set .ensures) in
     let test = rw (c .before .before .before .before .before .file-place .ensures) at (c .before .before .before .before .meets-t1 .ensures) in
     let e = rw (c .before .before .file-place2 .ensures) at (c .before .file-set .ensures) in
     let met = same-t1 _ _ _ plus _ .0 (test .0 (not-false _ (c .before .before .before .if1 .left))) in

@@ -16,7 +16,8 @@ set-of-requires c κs = let p = c .before .before .before .before .before .befor
 
 returns : tie.Need-returns
 returns c =
-    subst (λ (b : List ℕ). marked (c .set-of .result .has) ≐ SET (c .before .before .before .before .before .before .before .args .tree) b) (c .before .stored .ensures) (c .set-of .ensures)
+    let t = c .before .before .before .before .before .before .before .args .tree in
+    subst (λ (b : List ℕ). marked (c .set-of .result .has) ≐ SET t b) (c .before .stored .ensures) (c .set-of .ensures)
 
 pub role-set-spec : {M : Type 1} → statement M
 role-set-spec = tie.close (tie.spec stored-requires set-of-requires returns)

@@ -53,9 +53,12 @@ all-zero-requires c κs = search needs
 
 returns-2 : tie.Need-returns-2
 returns-2 c =
-    let a = c .before .before .before .before .before .before .before .before .before .before .args in
-    let w = c .before .before .before .before .before .before .wide in
-    place-both _ _ _ (a .lens .now) (a .bytes .now) (a .k) (w .result) (w .ensures) (c .before .before .before .before .before .if1 .left) (c .before .before .before .kind-at .ensures) _ _ (c .before .before .in-order .ensures) (c .all-zero .ensures)
+    let c₃ = c .before .before .before in
+    let c₅ = c₃ .before .before in
+    let a = c₅ .before .before .before .before .before .args in
+    let w = c₅ .before .wide in
+    place-both _ _ _ (a .lens .now) (a .bytes .now) (a .k) (w .result) (w .ensures) (c₅ .if1 .left)
+    (c₃ .kind-at .ensures) _ _ (c .before .before .in-order .ensures) (c .all-zero .ensures)
 
 pub place-fine-spec : {M : Type 1} → statement M
 place-fine-spec =

@@ -1,4 +1,5 @@
--- `shelf::put_bytes` meets its contract: so many bytes of the store are done, first those of x, then zero. The measures are what is left of each. Assumes nothing.
+-- `shelf::put_bytes` meets its contract: so many bytes of the store are done, first those of x,
+-- then zero. The measures are what is left of each. Assumes nothing.
 use mathlib.Core.Path.{_≡_, refl, sym, subst}
 use mathlib.Core.List.{List}
 use Prim.Native.Nat.{ℕ, _+_, _*_, _≤_, _-_}
@@ -25,10 +26,12 @@ abbrev μ-loop2 : tie.MeasureT-loop2
 μ-loop2 bytes₀ k x at j₀ bytes j = longest - j
 
 -- the second loop goes on with what the first one left
-so-far : (c : tie.At-loop2 Inv-loop μ-loop Inv-loop2 μ-loop2) → let a = c .before .before .before .args in Copied (a .bytes .now) (a .k) (a .x .now) (c .loop2 .bytes) (c .loop2 .j)
+so-far : (c : tie.At-loop2 Inv-loop μ-loop Inv-loop2 μ-loop2)
+    → let a = c .before .before .before .args in Copied (a .bytes .now) (a .k) (a .x .now) (c .loop2 .bytes) (c .loop2 .j)
 so-far c =
     let a = c .before .before .before .args in
-    c .loop2 .inv .2 (a .bytes .now) (omega arith) (subst (Copied (a .bytes .now) (a .k) (a .x .now) (c .before .before .loop .bytes)) (omega arith) (c .before .before .loop .inv .2))
+    let l = c .before .before .loop in
+    c .loop2 .inv .2 (a .bytes .now) (omega arith) (subst (Copied (a .bytes .now) (a .k) (a .x .now) (l .bytes)) (omega arith) (l .inv .2))
 
 mul-at : tie.Need-mul-at Inv-loop μ-loop Inv-loop2 μ-loop2
 mul-at c = omega arith
@@ -70,7 +73,11 @@ loop2-less : tie.Need-loop2-less Inv-loop μ-loop Inv-loop2 μ-loop2
 loop2-less c = omega arith
 
 loop2-again : tie.Need-loop2-again Inv-loop μ-loop Inv-loop2 μ-loop2
-loop2-again c = (omega arith, omega arith, λ b l d. copied-more (c .before .before .before .before .pre .0) (c .before .loop2 .inv .2 b l d) (omega arith) l 0 (sym (past-end (c .before .before .before .before .args .x .now) (c .before .loop2 .j) (omega arith))))
+loop2-again c =
+    let c₄ = c .before .before .before .before in
+    let l2 = c .before .loop2 in
+    let z = past-end (c₄ .args .x .now) (l2 .j) (omega arith) in
+    (omega arith, omega arith, λ b l d. copied-more (c₄ .pre .0) (l2 .inv .2 b l d) (omega arith) l 0 (sym z))
 
 same-length : tie.Need-same-length Inv-loop μ-loop Inv-loop2 μ-loop2
 same-length c = so-far (c .before) .long

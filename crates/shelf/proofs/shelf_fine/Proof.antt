@@ -10,7 +10,8 @@ use Rattle.shelf.proofs.shelf_fine.Statement.{statement}
 use Rattle.shelf.proofs.shelf_fine.Tie as tie
 
 abbrev Inv-loop : tie.InvT-loop
-Inv-loop file n depth lens bytes ok₀ k₀ k-end ok k = (k-end ≡ length lens) × (k ≤ k-end) × Flag (λ (i : ℕ). PlaceFine (kindAt file i) n (depth .0) lens bytes i) k ok
+Inv-loop file n depth lens bytes ok₀ k₀ k-end ok k =
+    (k-end ≡ length lens) × (k ≤ k-end) × Flag (λ (i : ℕ). PlaceFine (kindAt file i) n (depth .0) lens bytes i) k ok
 
 abbrev μ-loop : tie.MeasureT-loop
 μ-loop file n depth lens bytes ok₀ k₀ k-end ok k = k-end - k

@@ -15,10 +15,15 @@ wide-requires : tie.Need-wide-requires
 wide-requires c κs = search needs
 
 sub-result : tie.Need-sub-result
-sub-result c = omega (arith, the-digit (c .before .before .before .args .s .now) (c .before .before .before .args .at) (c .before .before .before .pre) .0, c .wide .ensures)
+sub-result c =
+    let c₃ = c .before .before .before in
+    omega (arith, the-digit (c₃ .args .s .now) (c₃ .args .at) (c₃ .pre) .0, c .wide .ensures)
 
 returns : tie.Need-returns
-returns c = subst (λ (z : ℕ). Digit (c .before .before .before .args .s .now) (c .before .before .before .args .at) (z - 48)) (sym (c .wide .ensures)) (the-digit (c .before .before .before .args .s .now) (c .before .before .before .args .at) (c .before .before .before .pre) .1)
+returns c =
+    let c₃ = c .before .before .before in
+    subst (λ (z : ℕ). Digit (c₃ .args .s .now) (c₃ .args .at) (z - 48)) (sym (c .wide .ensures))
+    (the-digit (c₃ .args .s .now) (c₃ .args .at) (c₃ .pre) .1)
 
 pub digit-spec : {M : Type 1} → statement M
 digit-spec = tie.close (tie.spec shared-slice-read-wide wide-requires sub-result returns)

@@ -1,4 +1,4 @@
--- `dots` meets its contract. Assumes nothing.
+-- `dots` meets its contract: the first dot leads the scan between two dots, and the second is a sign. Assumes nothing.
 use native.Mathlib.Omega.{arith}
 use Rattle.text.proofs.Laws.{stands-in}
 use Rattle.text.proofs.Levels.{dots-on, dots-not}
@@ -13,10 +13,17 @@ add-r : tie.Need-add-r
 add-r c = search needs
 
 sign-requires : tie.Need-sign-requires
-sign-requires c κs = let h = stands-in (c .before .before .before .before .before .args .s .now) (c .before .before .before .before .before .args .g) _ _ (c .before .before .stands .ensures) (c .before .if1 .taken) in (omega arith, c .before .before .before .before .before .pre .1)
+sign-requires c κs =
+    let c₂ = c .before .before in
+    let c₅ = c₂ .before .before .before in
+    let h = stands-in (c₅ .args .s .now) (c₅ .args .g) _ _ (c₂ .stands .ensures) (c .before .if1 .taken) in (omega arith, c₅ .pre .1)
 
 returns : tie.Need-returns
-returns c = dots-on _ _ (c .before .before .before .before .before .before .pre .0) _ (c .before .before .before .stands .ensures) (c .before .before .if1 .taken) _ (c .sign .ensures)
+returns c =
+    let c₂ = c .before .before in
+    let c₃ = c₂ .before in
+    let c₆ = c₃ .before .before .before in
+    dots-on _ _ (c₆ .pre .0) _ (c₃ .stands .ensures) (c₂ .if1 .taken) _ (c .sign .ensures)
 
 returns-2 : tie.Need-returns-2
 returns-2 c = dots-not _ _ (c .before .before .before .before .pre .0) _ (c .before .stands .ensures) (c .if1 .left)

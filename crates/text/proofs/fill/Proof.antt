@@ -30,13 +30,21 @@ loop-less : tie.Need-loop-less Inv-loop μ-loop
 loop-less c = search needs
 
 loop-again : tie.Need-loop-again Inv-loop μ-loop
-loop-again c = let g : length (c .before .before .args .t2) ≡ 48 = search needs in (fill-more _ _ _ (omega (arith, c .before .before .pre .0)) (omega (arith, c .before .before .pre .0, c .before .before .pre .1)) _ _ (c .before .loop .inv .0) (c .loop-test .taken), search needs)
+loop-again c =
+    let c₂ = c .before .before in
+    let g : length (c₂ .args .t2) ≡ 48 = search needs in (
+      fill-more _ _ _ (omega (arith, c₂ .pre .0)) (omega (arith, c₂ .pre .0, c₂ .pre .1)) _ _ (c .before .loop .inv .0) (c .loop-test .taken),
+      search needs,
+    )
 
 same-length : tie.Need-same-length Inv-loop μ-loop
 same-length c = search needs
 
 returns : tie.Need-returns Inv-loop μ-loop
-returns c = let g : length (c .before .before .args .t2) ≡ 48 = search needs in fill-end _ _ _ (omega (arith, c .before .before .pre .0)) (omega (arith, c .before .before .pre .0, c .before .before .pre .1)) _ _ (c .before .loop .inv .0) (c .loop-test .left)
+returns c =
+    let c₂ = c .before .before in
+    let g : length (c₂ .args .t2) ≡ 48 = search needs in
+    fill-end _ _ _ (omega (arith, c₂ .pre .0)) (omega (arith, c₂ .pre .0, c₂ .pre .1)) _ _ (c .before .loop .inv .0) (c .loop-test .left)
 
 pub fill-spec : {M : Type 1} → statement M
 fill-spec =

@@ -1,4 +1,4 @@
--- `insert` meets its contract. Assumes nothing.
+-- `insert` meets its contract: the bytes from the place on have moved up, or the number is over the most. Assumes nothing.
 use mathlib.Core.Path.{_≡_}
 use lib.ListN.{length}
 use Rattle.text.proofs.Shelf.{insert-in, insert-far, insert-over}
@@ -16,7 +16,10 @@ add-r : tie.Need-add-r
 add-r c = search needs
 
 returns : tie.Need-returns
-returns c = let g : length (c .before .before .before .before .args .g .bytes) ≡ 48 = search needs in insert-in (c .before .before .before .before .args .g) _ _ g (c .before .before .before .if1 .taken) _ (c .moved .ensures)
+returns c =
+    let c₃ = c .before .before .before in
+    let c₄ = c₃ .before in
+    let g : length (c₄ .args .g .bytes) ≡ 48 = search needs in insert-in (c₄ .args .g) _ _ g (c₃ .if1 .taken) _ (c .moved .ensures)
 
 returns-2 : tie.Need-returns-2
 returns-2 c = insert-far (c .before .before .args .g) _ _ (c .before .if1 .taken) (c .if2 .left)

@@ -32,10 +32,16 @@ loop-less : tie.Need-loop-less Inv-loop μ-loop
 loop-less c = omega arith
 
 loop-again : tie.Need-loop-again Inv-loop μ-loop
-loop-again c = let g : length (c .before .before .args .a) ≡ 48 = search needs in move-more _ (c .before .before .args .start) (c .before .before .args .n) (c .before .loop .i) (c .before .loop .b) (c .before .loop .inv) (omega arith) (c .loop-test .taken)
+loop-again c =
+    let c₂ = c .before .before in
+    let g : length (c₂ .args .a) ≡ 48 = search needs in
+    move-more _ (c₂ .args .start) (c₂ .args .n) (c .before .loop .i) (c .before .loop .b) (c .before .loop .inv) (omega arith) (c .loop-test .taken)
 
 returns : tie.Need-returns Inv-loop μ-loop
-returns c = let g : length (c .before .before .args .a) ≡ 48 = search needs in move-end _ (c .before .before .args .start) (c .before .before .args .n) (c .before .loop .i) (c .before .loop .b) (c .before .loop .inv) (omega arith) (c .loop-test .left)
+returns c =
+    let c₂ = c .before .before in
+    let g : length (c₂ .args .a) ≡ 48 = search needs in
+    move-end _ (c₂ .args .start) (c₂ .args .n) (c .before .loop .i) (c .before .loop .b) (c .before .loop .inv) (omega arith) (c .loop-test .left)
 
 pub moved-spec : {M : Type 1} → statement M
 moved-spec =

@@ -20,7 +20,13 @@ sign-requires-2 : tie.Need-sign-requires-2
 sign-requires-2 c κs = search needs
 
 returns : tie.Need-returns
-returns c = ranged _ _ (c .before .before .before .before .before .before .before .pre .0 .1) _ (c .before .before .before .before .sign .ensures) _ (c .before .before .before .number .ensures) _ (c .before .before .dots .ensures) _ (c .before .number2 .ensures) _ (c .sign2 .ensures)
+returns c =
+    let c₂ = c .before .before in
+    let c₃ = c₂ .before in
+    let c₄ = c₃ .before in
+    let c₇ = c₄ .before .before .before in
+    ranged _ _ (c₇ .pre .0 .1) _ (c₄ .sign .ensures) _ (c₃ .number .ensures) _ (c₂ .dots .ensures) _ (c .before .number2 .ensures) _
+    (c .sign2 .ensures)
 
 pub range-spec : {M : Type 1} → statement M
 range-spec =

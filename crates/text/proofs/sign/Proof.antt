@@ -1,4 +1,4 @@
--- `sign` meets its contract. Assumes nothing.
+-- `sign` meets its contract: where the sign stands, the scan goes past it and the spaces after it; else it stops. Assumes nothing.
 use native.Mathlib.Omega.{arith}
 use Rattle.text.proofs.Laws.{stands-in}
 use Rattle.text.proofs.Levels.{sign-past, sign-not}
@@ -13,7 +13,10 @@ add-skip : tie.Need-add-skip
 add-skip c = search needs
 
 skip-requires : tie.Need-skip-requires
-skip-requires c κs = let h = stands-in (c .before .before .before .before .before .args .s .now) (c .before .before .before .before .before .args .g) _ _ (c .before .before .stands .ensures) (c .before .if1 .taken) in (omega arith, c .before .before .before .before .before .pre .1)
+skip-requires c κs =
+    let c₂ = c .before .before in
+    let c₅ = c₂ .before .before .before in
+    let h = stands-in (c₅ .args .s .now) (c₅ .args .g) _ _ (c₂ .stands .ensures) (c .before .if1 .taken) in (omega arith, c₅ .pre .1)
 
 returns : tie.Need-returns
 returns c = sign-past _ _ _ _ (c .before .before .before .stands .ensures) (c .before .before .if1 .taken) _ (c .skip .ensures)

@@ -1,4 +1,4 @@
--- `stands` meets its contract. Assumes nothing.
+-- `stands` meets its contract: by the class of the next byte, where the text is read so far. Assumes nothing.
 use borrow.Author.Needs.{needs}
 use Rattle.text.proofs.stands.Statement.{statement}
 use Rattle.text.proofs.stands.Tie as tie

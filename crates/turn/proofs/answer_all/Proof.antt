@@ -32,19 +32,39 @@ add-from : tie.Need-add-from Inv-loop μ-loop
 add-from c = search needs
 
 answer-requires : tie.Need-answer-requires Inv-loop μ-loop
-answer-requires c κs = let e = few-kept _ _ _ _ _ (c .before .before .before .before .before .collect .ensures) (c .before .before .before .before .before .before .before .before .before .loop .inv .few) (c .before .before .before .before .before .before .before .before .before .loop .inv .long) in omega arith
+answer-requires c κs =
+    let c₅ = c .before .before .before .before .before in
+    let c₉ = c₅ .before .before .before .before in
+    let e = few-kept _ _ _ _ _ (c₅ .collect .ensures) (c₉ .loop .inv .few) (c₉ .loop .inv .long) in
+    omega arith
 
 loop-less : tie.Need-loop-less Inv-loop μ-loop
-loop-less c = let e = next-place (c .before .before .before .before .before .before .before .before .before .before .before .before .before .args .input .now) (c .before .before .before .before .before .before .before .before .before .before .loop .from) _ _ _ _ (c .before .before .before .before .before .before .collect .ensures) (c .before .before .before .before .before .before .before .before .before .loop-test .taken) in omega (arith, e .0, e .1)
+loop-less c =
+    let c₆ = c .before .before .before .before .before .before in
+    let c₉ = c₆ .before .before .before in
+    let c₁₀ = c₉ .before in
+    let c₁₃ = c₁₀ .before .before .before in
+    let e = next-place (c₁₃ .args .input .now) (c₁₀ .loop .from) _ _ _ _ (c₆ .collect .ensures) (c₉ .loop-test .taken) in
+    omega (arith, e .0, e .1)
 
 loop-again : tie.Need-loop-again Inv-loop μ-loop
 loop-again c = search needs
 
 loop-less-2 : tie.Need-loop-less-2 Inv-loop μ-loop
-loop-less-2 c = let e = next-place (c .before .before .before .before .before .before .before .before .before .before .before .args .input .now) (c .before .before .before .before .before .before .before .before .loop .from) _ _ _ _ (c .before .before .before .before .collect .ensures) (c .before .before .before .before .before .before .before .loop-test .taken) in omega (arith, e .0, e .1)
+loop-less-2 c =
+    let c₄ = c .before .before .before .before in
+    let c₇ = c₄ .before .before .before in
+    let c₈ = c₇ .before in
+    let c₁₁ = c₈ .before .before .before in
+    let e = next-place (c₁₁ .args .input .now) (c₈ .loop .from) _ _ _ _ (c₄ .collect .ensures) (c₇ .loop-test .taken) in
+    omega (arith, e .0, e .1)
 
 loop-again-2 : tie.Need-loop-again-2 Inv-loop μ-loop
-loop-again-2 c = let e = few-kept _ _ _ _ _ (c .before .before .before .before .collect .ensures) (c .before .before .before .before .before .before .before .before .loop .inv .few) (c .before .before .before .before .before .before .before .before .loop .inv .long) in search needs
+loop-again-2 c =
+    let c₄ = c .before .before .before .before in
+    let c₈ = c₄ .before .before .before .before in
+    let e = few-kept _ _ _ _ _ (c₄ .collect .ensures) (c₈ .loop .inv .few) (c₈ .loop .inv .long) in
+    search needs
 
 same-length : tie.Need-same-length Inv-loop μ-loop
 same-length c = search needs

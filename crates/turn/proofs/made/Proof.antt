@@ -1,4 +1,4 @@
--- `made` meets its contract. Assumes nothing.
+-- `made` meets its contract: by whether the answer is a grant. Assumes nothing.
 use mathlib.Core.Path.{sym, _∙_}
 use mathlib.Core.Bool.{false≢true}
 use borrow.Author.Tests.{eq-eqb, ne-eqb}

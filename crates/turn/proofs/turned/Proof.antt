@@ -25,7 +25,13 @@ same-length : tie.Need-same-length
 same-length c = search needs
 
 returns : tie.Need-returns
-returns c = prints-it (c .before .before .before .before .before .before .before .before .before .before .before .args .n) (c .before .before .before .before .before .before .before .before .before .before .before .args .line .now) _ _ _ (c .before .before .before .before .before .before .turn .ensures .0) (c .before .before .before .before .before .before .turn .ensures .1) _ (c .before .before .before .before .made .ensures) _ _ _ (c .before .before .print .ensures)
+returns c =
+    let c₂ = c .before .before in
+    let c₄ = c₂ .before .before in
+    let c₆ = c₄ .before .before in
+    let c₁₁ = c₆ .before .before .before .before .before in
+    prints-it (c₁₁ .args .n) (c₁₁ .args .line .now) _ _ _ (c₆ .turn .ensures .0) (c₆ .turn .ensures .1) _ (c₄ .made .ensures) _ _ _
+    (c₂ .print .ensures)
 
 pub turned-spec : {M : Type 1} → statement M
 turned-spec =

@@ -15,7 +15,9 @@ no-file-requires : tie.Need-no-file-requires
 no-file-requires c κs = search needs
 
 returns : tie.Need-returns
-returns c = ap₂ (λ (r : Role) (f : File). setFiles (setRoles freshState (replicate mostRoles r)) (replicate mostFiles f)) (c .before .no-role .ensures) (c .no-file .ensures)
+returns c =
+    ap₂ (λ (r : Role) (f : File). setFiles (setRoles freshState (replicate mostRoles r)) (replicate mostFiles f))
+    (c .before .no-role .ensures) (c .no-file .ensures)
 
 pub fresh-spec : {M : Type 1} → statement M
 fresh-spec = tie.close (tie.spec no-role-requires no-file-requires returns)
