@@ -1,33 +1,30 @@
--- `image::read_head` meets its contract: each field follows those before it. Assumes nothing.
-use mathlib.Core.List.{[], _∷_}
-use Rattle.image.specs.declared.Met.the-variants.{Read}
-use Rattle.image.specs.Image.{markS, markP, markT}
-use Rattle.image.specs.Faults.{mark, version, Meets, headFields}
-use Rattle.image.specs.Order.{follows-one, follows-more, follows-start}
-use Rattle.image.proofs.Bytes.{mark-as}
 use borrow.Author.Needs.{needs}
 use Rattle.image.proofs.read_head.Statement.{statement}
 use Rattle.image.proofs.read_head.Tie as tie
+use Rattle.image.proofs.read_head.Reads as reads
+use Rattle.image.proofs.read_head.Lts as lts
+use Rattle.fields.proofs.read_byte.Reads as read-byte-reads
+use Rattle.fields.proofs.read_word.Reads as read-word-reads
 
+-- src/lib.rt:95:13
 read-byte-requires : tie.Need-read-byte-requires
 read-byte-requires c κs = search needs
 
+-- src/lib.rt:96:13
 read-byte-requires-2 : tie.Need-read-byte-requires-2
 read-byte-requires-2 c κs = search needs
 
+-- src/lib.rt:97:13
 read-byte-requires-3 : tie.Need-read-byte-requires-3
 read-byte-requires-3 c κs = search needs
 
-read-version-requires : tie.Need-read-version-requires
-read-version-requires c κs = search needs
+-- src/lib.rt:98:5
+read-word-requires : tie.Need-read-word-requires
+read-word-requires c κs = search needs
 
+-- src/lib.rt:92:1
 returns : tie.Need-returns
-returns c =
-    let s = mark-as markS _ (Read 0) _ (c .before .before .before .read-byte .ensures .met) in
-    let p = mark-as markP _ _ _ (c .before .before .read-byte2 .ensures .met) in
-    let t = mark-as markT _ _ _ (c .before .read-byte3 .ensures .met) in
-    let v = follows-one version _ _ _ (c .read-version .ensures) in
-    follows-start (Meets headFields) _ (follows-more (mark markS ∷ mark markP ∷ mark markT ∷ []) (version ∷ []) _ (Read 0) _ _ (follows-more (mark markS ∷ mark markP ∷ []) (mark markT ∷ []) _ (Read 0) _ _ (follows-more (mark markS ∷ []) (mark markP ∷ []) _ (Read 0) _ _ s p) t) v)
+returns c = ?
 
 pub read-head-spec : {M : Type 1} → statement M
 read-head-spec =
@@ -36,5 +33,5 @@ read-head-spec =
     read-byte-requires
     read-byte-requires-2
     read-byte-requires-3
-    read-version-requires
+    read-word-requires
     returns)
