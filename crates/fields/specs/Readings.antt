@@ -34,6 +34,12 @@ module _ {A : Type 0} (F : Format A) (bs : List ℕ) where
   unfolding Reads
   reads-from a v e f h = subst (λ (x : Met). Comes F bs a x v) e (f h)
 
+  -- of a refusal the value says nothing
+  pub reads-refused : (m : Met) {o : Met} {n k : ℕ} (v w : A) → o ≡ Refused n k → Reads F bs m o v → Reads F bs m o w
+  unfolding Reads
+  reads-refused (Refused i j) v w e f = f
+  reads-refused (Read a) v w e f = λ h. subst (λ (x : Met). Comes F bs a x w) (sym e) (subst (λ (x : Met). Comes F bs a x v) e (f h))
+
 -- no bytes
 pub reads-give : {A : Type 0} (v : A) (bs : List ℕ) (m : Met) → Reads (give v) bs m m v
 unfolding Reads

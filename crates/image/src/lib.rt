@@ -168,9 +168,9 @@ fn read_part(
 {
     let lead = fields::read_byte(image, from, 0, LONGEST, EXPRESSION_WRONG);
     let m = lead.value;
-    let before = lead.met;
-    let Met::Read(at) = before else {
-        return before;
+    let led = lead.met;
+    let Met::Read(at) = led else {
+        return led;
     };
     let met = read_stated(image, at, m, kind, n, depth);
     let Met::Read(end) = met else {

@@ -1,78 +1,88 @@
+-- `image::read_part` meets its contract: an expression that is read is stored, and a refusal stores nothing. Assumes nothing.
+use mathlib.Core.Path.{ap}
+use native.Mathlib.Omega.{arith}
+use lib.ListN.{length}
+use Rattle.image.proofs.Shelf.{part-led, part-refused, part-found, part-stored}
 use borrow.Author.Needs.{needs}
 use Rattle.image.proofs.read_part.Statement.{statement}
 use Rattle.image.proofs.read_part.Tie as tie
-use Rattle.image.proofs.read_part.Reads as reads
-use Rattle.image.proofs.read_part.Lts as lts
-use Rattle.fields.proofs.read_byte.Reads as read-byte-reads
-use Rattle.image.proofs.read_stated.Reads as read-stated-reads
-use Rattle.shelf.proofs.put.Reads as put-reads
 
--- src/lib.rt:169:9
 read-byte-requires : tie.Need-read-byte-requires
 read-byte-requires c κs = search needs
 
--- src/lib.rt:172:19
-enum-known-before : tie.Need-enum-known-before
-enum-known-before c = search needs
+enum-known-led : tie.Need-enum-known-led
+enum-known-led c = search needs
 
--- src/lib.rt:173:9
 enum-told : tie.Need-enum-told
 enum-told c = search needs
 
--- src/lib.rt:173:9
 returns : tie.Need-returns
-returns c = ?
+returns c = part-led _ _ _ _ _ (c .before .before .read-byte .ensures) (c .enum-told .given .1)
 
--- src/lib.rt:175:9
 read-stated-requires : tie.Need-read-stated-requires
-read-stated-requires c κs = ?
+read-stated-requires c κs = (c .before .before .before .before .before .before .before .pre .0, c .before .before .before .read-byte .ensures .within _ (c .before .led .given .1))
 
--- src/lib.rt:176:19
 enum-known-met : tie.Need-enum-known-met
 enum-known-met c = search needs
 
--- src/lib.rt:177:9
 enum-told-2 : tie.Need-enum-told-2
 enum-told-2 c = search needs
 
--- src/lib.rt:177:9
 returns-2 : tie.Need-returns-2
-returns-2 c = ?
+returns-2 c =
+    let read = c .before .before .before .before .led .given .1 in
+    part-refused _ _ _ _ _ (c .before .before .before .before .before .before .read-byte .ensures) read (c .before .before .read-stated .ensures) (c .enum-told2 .given .1)
 
--- src/lib.rt:179:32
 sub-put : tie.Need-sub-put
-sub-put c = ?
+sub-put c =
+    let a = c .before .before .before .before .before .before .before .before .before .before .before .before .before in
+    let read = c .before .before .before .before .before .before .before .led .given .1 in
+    let w = c .before .before .before .before .before .read-stated .ensures in
+    let f = part-found _ _ _ _ (a .args .k) (c .before .before .before .before .before .before .before .before .before .read-byte .ensures) read w (c .before .before .before .met .given .1) in
+    f .start
 
--- src/lib.rt:179:32
 part-put-start : tie.Need-part-put-start
-part-put-start c = ?
+part-put-start c =
+    let a = c .before .before .before .before .before .before .before .before .before .before .before .before .before in
+    let read = c .before .before .before .before .before .before .before .led .given .1 in
+    let w = c .before .before .before .before .before .read-stated .ensures in
+    let f = part-found _ _ _ _ (a .args .k) (c .before .before .before .before .before .before .before .before .before .read-byte .ensures) read w (c .before .before .before .met .given .1) in
+    omega (arith, f .start, f .within)
 
--- src/lib.rt:179:32
 part-put-end : tie.Need-part-put-end
-part-put-end c = ?
+part-put-end c =
+    let a = c .before .before .before .before .before .before .before .before .before .before .before .before .before in
+    let read = c .before .before .before .before .before .before .before .led .given .1 in
+    let w = c .before .before .before .before .before .read-stated .ensures in
+    let f = part-found _ _ _ _ (a .args .k) (c .before .before .before .before .before .before .before .before .before .read-byte .ensures) read w (c .before .before .before .met .given .1) in
+    omega (arith, f .start, f .within)
 
--- src/lib.rt:179:5
 put-requires : tie.Need-put-requires
-put-requires c κs = ?
+put-requires c κs =
+    let a = c .before .before .before .before .before .before .before .before .before .before .before .before .before .before in
+    let read = c .before .before .before .before .before .before .before .before .led .given .1 in
+    let w = c .before .before .before .before .before .before .read-stated .ensures in
+    let f = part-found _ _ _ _ (a .args .k) (c .before .before .before .before .before .before .before .before .before .before .read-byte .ensures) read w (c .before .before .before .before .met .given .1) in
+    (a .pre .1, omega (arith, ap length (f .is), f .long, c .before .before .before .before .before .before .before .before .before .before .read-byte .ensures .most), a .pre .2)
 
--- src/lib.rt:156:1
 same-length : tie.Need-same-length
 same-length c = search needs
 
--- src/lib.rt:156:1
 same-length-2 : tie.Need-same-length-2
 same-length-2 c = search needs
 
--- src/lib.rt:156:1
 returns-3 : tie.Need-returns-3
-returns-3 c = ?
+returns-3 c =
+    let read = c .before .before .before .before .before .before .before .before .before .before .before .before .before .led .given .1 in
+    let w = c .before .before .before .before .before .before .before .before .before .before .before .read-stated .ensures in
+    part-stored _ _ _ _ _ (c .before .before .before .before .before .before .before .before .before .before .before .before .before .before .before .read-byte .ensures) read w (c .before .before .before .before .before .before .before .before .before .met .given .1) (c .before .before .before .before .put .ensures)
 
 pub read-part-spec : {M : Type 1} → statement M
 read-part-spec =
     tie.close
     (tie.spec
     read-byte-requires
-    enum-known-before
+    enum-known-led
     enum-told
     returns
     read-stated-requires

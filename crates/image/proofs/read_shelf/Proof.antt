@@ -1,51 +1,52 @@
+-- `image::read_shelf` meets its contract: the places passed are read, and the shelf holds them. The measure is what is left of the places. Assumes nothing.
+use mathlib.Core.Path.{_≡_, sym, _∙_}
+use Prim.Native.Nat.{_≤_, _-_}
+use native.Mathlib.Omega.{arith}
+use lib.ListN.{length}
+use Rattle.image.specs.Reading.{kindsOf}
+use Rattle.image.proofs.Shelf.{stocked-room, Passed, passed-none, passed-lengths, passed-room, passed-more, passed-all}
 use Rattle.image.proofs.read_shelf.Statement.{statement}
 use Rattle.image.proofs.read_shelf.Tie as tie
-use Rattle.image.proofs.read_shelf.Reads as reads
-use Rattle.image.proofs.read_shelf.Lts as lts
-use Rattle.image.proofs.read_part.Reads as read-part-reads
-use Rattle.shelf.proofs.kind_at.Reads as kind-at-reads
 
 abbrev Inv-loop : tie.InvT-loop
-Inv-loop image file n depth lens₀ bytes₀ met₀ k₀ k-end lens bytes met k = ?
+Inv-loop image file n depth lens₀ bytes₀ met₀ k₀ k-end lens bytes met k =
+    (k ≤ k-end) × (k-end ≡ length (kindsOf file)) × Passed file n (depth .0) image met₀ k lens bytes met
 
 abbrev μ-loop : tie.MeasureT-loop
-μ-loop image file n depth lens₀ bytes₀ met₀ k₀ k-end lens bytes met k = ?
+μ-loop image file n depth lens₀ bytes₀ met₀ k₀ k-end lens bytes met k = k-end - k
 
--- src/lib.rt:197:5
 loop-holds : tie.Need-loop-holds Inv-loop μ-loop
-loop-holds c = ?
+loop-holds c =
+    let p = passed-none _ _ _ _ (c .before .before .before .pre .1) in
+    (omega arith, passed-lengths _ _ _ _ p, p)
 
--- src/lib.rt:198:13
 kind-at-requires : tie.Need-kind-at-requires Inv-loop μ-loop
-kind-at-requires c κs = ?
+kind-at-requires c κs = tt
 
--- src/lib.rt:199:9
 read-part-requires : tie.Need-read-part-requires Inv-loop μ-loop
-read-part-requires c κs = ?
+read-part-requires c κs =
+    let w = c .before .before .before .before .loop .inv in
+    (c .before .before .before .before .before .before .before .before .pre .0, omega (arith, w .1, passed-lengths _ _ _ _ (w .2)), omega (arith, w .1, passed-room _ _ _ _ (w .2)))
 
--- src/lib.rt:197:9
 add-k : tie.Need-add-k Inv-loop μ-loop
-add-k c = ?
+add-k c = omega (arith, c .before .before .before .before .before .before .before .before .before .loop .inv .1, c .before .before .before .before .before .before .before .before .before .before .before .before .before .good)
 
--- src/lib.rt:197:5
 loop-less : tie.Need-loop-less Inv-loop μ-loop
-loop-less c = ?
+loop-less c = omega arith
 
--- src/lib.rt:197:5
 loop-again : tie.Need-loop-again Inv-loop μ-loop
-loop-again c = ?
+loop-again c =
+    let w = c .before .before .before .before .before .before .before .before .before .loop .inv in
+    (omega (arith, w .1), w .1, passed-more _ _ _ _ (w .2) (omega (arith, w .1)) (c .before .before .before .before .before .before .before .kind-at .ensures) (c .before .before .before .before .read-part .ensures))
 
--- src/lib.rt:184:1
 same-length : tie.Need-same-length Inv-loop μ-loop
-same-length c = ?
+same-length c = let w = c .before .loop .inv in passed-lengths _ _ _ _ (w .2) ∙ sym (w .1)
 
--- src/lib.rt:184:1
 same-length-2 : tie.Need-same-length-2 Inv-loop μ-loop
-same-length-2 c = ?
+same-length-2 c = passed-room _ _ _ _ (c .before .loop .inv .2) ∙ sym (stocked-room (c .before .before .before .before .before .pre .1))
 
--- src/lib.rt:184:1
 returns : tie.Need-returns Inv-loop μ-loop
-returns c = ?
+returns c = let w = c .before .loop .inv in passed-all _ _ _ _ (w .2) (omega (arith, w .0, w .1))
 
 pub read-shelf-spec : {M : Type 1} → statement M
 read-shelf-spec =

@@ -1,50 +1,49 @@
+-- `image::read_tree` meets its contract: the parents of the securons passed are read, and the others are zero. The measure is what is left of them. Assumes nothing.
+use Prim.Native.Nat.{_<_, _≤_, _-_}
+use native.Mathlib.Omega.{arith}
+use borrow.Author.Needs.{zero≤}
+use Rattle.image.proofs.Rows.{Grows, grows-none, grows-more, grows-tree}
 use Rattle.image.proofs.read_tree.Statement.{statement}
 use Rattle.image.proofs.read_tree.Tie as tie
-use Rattle.image.proofs.read_tree.Reads as reads
-use Rattle.image.proofs.read_tree.Lts as lts
-use Rattle.fields.proofs.read_byte.Reads as read-byte-reads
 
 abbrev Inv-loop : tie.InvT-loop
-Inv-loop image n parent₀ met₀ u₀ parent met u = ?
+Inv-loop image n parent₀ met₀ u₀ parent met u = (0 < u) × (u ≤ n) × Grows image met₀ u parent met
 
 abbrev μ-loop : tie.MeasureT-loop
-μ-loop image n parent₀ met₀ u₀ parent met u = ?
+μ-loop image n parent₀ met₀ u₀ parent met u = n - u
 
--- src/lib.rt:108:5
 loop-holds : tie.Need-loop-holds Inv-loop μ-loop
-loop-holds c = ?
+loop-holds c = (omega arith, omega (arith, c .before .pre), grows-none _)
 
--- src/lib.rt:109:52
 sub-read-byte : tie.Need-sub-read-byte Inv-loop μ-loop
-sub-read-byte c = ?
+sub-read-byte c = omega arith
 
--- src/lib.rt:109:13
 read-byte-requires : tie.Need-read-byte-requires Inv-loop μ-loop
-read-byte-requires c κs = ?
+read-byte-requires c κs = zero≤
 
--- src/lib.rt:110:21
 cast-parent : tie.Need-cast-parent Inv-loop μ-loop
-cast-parent c = ?
+cast-parent c = omega (arith, c .before .read-byte .ensures .most, c .before .before .before .loop .inv, c .before .before .before .before .before .pre)
 
--- src/lib.rt:110:9
 array-write-parent : tie.Need-array-write-parent Inv-loop μ-loop
-array-write-parent c = ?
+array-write-parent c = omega (arith, c .before .before .before .before .before .pre)
 
--- src/lib.rt:108:9
 add-u : tie.Need-add-u Inv-loop μ-loop
-add-u c = ?
+add-u c = omega (arith, c .before .before .before .before .before .pre)
 
--- src/lib.rt:108:5
 loop-less : tie.Need-loop-less Inv-loop μ-loop
-loop-less c = ?
+loop-less c = omega arith
 
--- src/lib.rt:108:5
 loop-again : tie.Need-loop-again Inv-loop μ-loop
-loop-again c = ?
+loop-again c =
+    let w = c .before .before .before .loop .inv in
+    let room = c .before .before .before .before .before .pre in
+    (omega arith, omega arith, grows-more _ (w .2) (omega (arith, room)) (c .before .read-byte .ensures))
 
--- src/lib.rt:102:1
 returns : tie.Need-returns Inv-loop μ-loop
-returns c = ?
+returns c =
+    let w = c .before .loop .inv in
+    let range = c .before .before .before .pre in
+    grows-tree _ (w .2) (omega (arith, w .1)) range
 
 pub read-tree-spec : {M : Type 1} → statement M
 read-tree-spec =
