@@ -52,7 +52,9 @@ module _ (bs : List ℕ) {top : Met} (h : ReadsSome (head (inUse .latest)) bs (R
     p = record { tree = treeOf ps; roles = r-read .as-read .value; files = f-read .as-read .value }
 
     depth-same : d ≡ depthOf (treeOf ps)
-    depth-same = depth-exactly (treeOf ps) (subst IsTree (t-read .as-read .is) (t-read .grown)) d .0 (subst (λ (x : Tree). IsDepth x d) (t-read .as-read .is) deep)
+    depth-same =
+        let is = t-read .as-read .is in
+        depth-exactly (treeOf ps) (subst IsTree is (t-read .grown)) d .0 (subst (λ (x : Tree). IsDepth x d) is deep)
 
     -- the shelves, over the parents and the depth of their tree
     over : (kinds : List Kind) (count : ℕ) (m o : Met) (rows : List Expressions) → Reads (times count (λ i. shelf kinds (c .value - 1) d)) bs m o rows

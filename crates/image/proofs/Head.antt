@@ -27,7 +27,8 @@ module _ (bs : List ℕ) where
       let last = word (between 1 (inUse .latest)) noVersion in
       let third = byte (just markT) noMark in
       let second = byte (just markP) noMark in
-      let from-third = reads-then third (λ _. last) bs (p .met) (t .met) (v .met) (t .value) (v .value) (mark-read markT (p .met) t c) (d .reads (noVersion .listed)) in
+      let version = d .reads (noVersion .listed) in
+      let from-third = reads-then third (λ _. last) bs (p .met) (t .met) (v .met) (t .value) (v .value) (mark-read markT (p .met) t c) version in
       let from-second = reads-then second (λ _. third >> last) bs (s .met) (p .met) (v .met) (p .value) (v .value) (mark-read markP (s .met) p b) from-third in
       record {
         value = v .value;

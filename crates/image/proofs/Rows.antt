@@ -1,6 +1,7 @@
 -- The parents, and the roles or files, one after another: what was read fills the room from its front. Assumes nothing.
 use mathlib.Core.Path.{_≡_, refl, sym, ap, ap₂, _∙_, subst}
 use mathlib.Core.List.{List, [], _∷_, _++_, map, map-append}
+use mathlib.Core.Logic.{_↔_}
 use Prim.Native.Nat.{ℕ, suc, _+_, _-_, _<_, _≤_}
 use native.Mathlib.Decide.{decLt}
 use native.Mathlib.Omega.{arith}
@@ -43,8 +44,9 @@ module _ (bs : List ℕ) {from : Met} where
         let v = r .value in
         let each : ℕ → Format ℕ = λ i. byte (below (i + 1)) noParent in
         let count = g .count in
-        let as-below = byte-as (between 0 (u - 1)) (below (u - 1 + 1)) (λ x. ((λ i. omega (arith, i .1)), λ i. (omega arith, omega (arith, i)))) noParent bs met in
-        let one = as-below (r .met) v (w .reads (noParent .listed)) in
+        let same : (x : ℕ) → between 0 (u - 1) .holds x ↔ below (u - 1 + 1) .holds x =
+        λ x. ((λ i. omega (arith, i .1)), λ i. (omega arith, omega (arith, i))) in
+        let one = byte-as (between 0 (u - 1)) (below (u - 1 + 1)) same noParent bs met (r .met) v (w .reads (noParent .listed)) in
         let next : u - 1 + 1 ≡ u + 1 - 1 = omega (arith, count) in
         let long = length-append (g .ps) (v ∷ []) in
         record {

@@ -1,4 +1,4 @@
--- A shelf that holds expressions, place after place: what is put at a place joins those that it holds; and the expressions that are read into it. Assumes nothing.
+-- A shelf holds expressions: what is put at a place joins those that it holds; how they are read, place after place. Assumes nothing.
 use mathlib.Core.Path.{_≡_, refl, sym, ap, ap₂, _∙_, subst}
 use mathlib.Core.Bool.{Bool}
 use mathlib.Core.List.{List, [], _∷_, _++_, map, flatMap, append-assoc}
@@ -27,7 +27,7 @@ use Rattle.fields.specs.Reading.{Reads, ReadsSome, NumberRead}
 use Rattle.fields.specs.Readings.{reads-stays, reads-refused, reads-give, reads-then, reads-more}
 use Rattle.image.specs.Image.{Expressions, noExpression, stated, expression, shelf}
 use Rattle.image.specs.Load.{roleOf, fileOf}
-use Rattle.image.specs.Reading.{ReadsAs, Short, Holds, Stocked, PartRead, kindsOf, ShelfRead}
+use Rattle.image.specs.Reading.{ReadsAs, Short, Holds, Stocked, PutRead, kindsOf, ShelfRead}
 use Rattle.image.specs.Made.{room-length, kinds-are}
 use Rattle.image.proofs.Stated.{Found, stated-found}
 
@@ -109,7 +109,7 @@ stocked-none places =
     }
 
 -- an expression with its length byte: it is not met or refused, and nothing is stored; or it is stored
-module _ (kind : Kind) (n d : ℕ) (bs : List ℕ) {from : Met} (k : ℕ) {r : NumberMet}
+module _ (kind : Kind) (n d : ℕ) (bs : List ℕ) {from : Met} {r : NumberMet}
     (lead : NumberRead byte bs from 0 longest expressionWrong r)
   where
     abbrev Rest : Format (List ℕ)
@@ -121,28 +121,28 @@ module _ (kind : Kind) (n d : ℕ) (bs : List ℕ) {from : Met} (k : ℕ) {r : N
         reads-then (byte (between 0 longest) noExpression) (stated kind (n - 1) d) bs from (r .met) o (r .value) v (lead .reads (noExpression .listed)) f
 
     -- where what comes is refused, whatever the value, the shelf holds what it held
-    kept : {lens bytes : List ℕ} (o : Met) → ((v : List ℕ) → Reads Rest bs (r .met) o v) → PartRead kind n d bs from k lens bytes lens bytes o
-    kept {lens} {bytes} o f xs holds h =
+    kept : (k : ℕ) {lens bytes : List ℕ} (o : Met) → ((v : List ℕ) → Reads Rest bs (r .met) o v) → PutRead kind n d bs from k lens bytes lens bytes o
+    kept k {lens} {bytes} o f xs holds h =
         let v = getD xs k [] in
         (v, led o v (f v), subst (λ (ys : Expressions). Holds ys lens bytes) (sym (set-getD xs k [])) holds)
 
-    pub part-led : {lens bytes : List ℕ} {i j : ℕ} → r .met ≡ Refused i j → PartRead kind n d bs from k lens bytes lens bytes (r .met)
-    part-led e = kept (r .met) (λ v. reads-stays Rest bs v e)
+    pub part-led : (k : ℕ) {lens bytes : List ℕ} {i j : ℕ} → r .met ≡ Refused i j → PutRead kind n d bs from k lens bytes lens bytes (r .met)
+    part-led k e = kept k (r .met) (λ v. reads-stays Rest bs v e)
 
     module _ {at : ℕ} (e : r .met ≡ Read at) {o : Met} (w : ReadsSome (stated kind (n - 1) d (r .value)) bs (Read at) o) where
       from-there : (v : List ℕ) → Reads Rest bs (Read at) o v → Reads Rest bs (r .met) o v
       from-there v f = subst (λ (m : Met). Reads Rest bs m o v) (sym e) f
 
-      pub part-refused : {lens bytes : List ℕ} {i j : ℕ} → o ≡ Refused i j → PartRead kind n d bs from k lens bytes lens bytes o
-      part-refused q = kept o (λ v. from-there v (reads-refused Rest bs (Read at) (w .value) v q (w .reads)))
+      pub part-refused : (k : ℕ) {lens bytes : List ℕ} {i j : ℕ} → o ≡ Refused i j → PutRead kind n d bs from k lens bytes lens bytes o
+      part-refused k q = kept k o (λ v. from-there v (reads-refused Rest bs (Read at) (w .value) v q (w .reads)))
 
       -- the bytes of the expression
       pub part-found : {end : ℕ} → o ≡ Read end → Found (r .value) bs at end (w .value)
       part-found q = stated-found kind (n - 1) d (r .value) bs at (lead .within at e) w q
 
-      pub part-stored : {end : ℕ} → o ≡ Read end → {lens bytes lens' bytes' : List ℕ} → PutAt lens bytes k (take (end - at) (drop at bs)) lens' bytes'
-          → PartRead kind n d bs from k lens bytes lens' bytes' (Read end)
-      part-stored {end} q {lens} {bytes} {lens'} {bytes'} put xs holds h =
+      pub part-stored : (k : ℕ) {end : ℕ} → o ≡ Read end → {lens bytes lens' bytes' : List ℕ} → PutAt lens bytes k (take (end - at) (drop at bs)) lens' bytes'
+          → PutRead kind n d bs from k lens bytes lens' bytes' (Read end)
+      part-stored k {end} q {lens} {bytes} {lens'} {bytes'} put xs holds h =
           let found = part-found q in
           let v = w .value in
           let stored = subst (λ (x : List ℕ). PutAt lens bytes k x lens' bytes') (found .is) put in
@@ -167,7 +167,7 @@ module _ (file : Bool) (n d : ℕ) (bs : List ℕ) {from : Met} where
     passed-room = stocked-room (p .stock)
 
     pub passed-more : k < length (kindsOf file) → {kind : Kind} → kind ≡ kindAt file k → {met' : Met} {lens' bytes' : List ℕ}
-        → PartRead kind n d bs met k lens bytes lens' bytes' met' → Passed file n d bs from (k + 1) lens' bytes' met'
+        → PutRead kind n d bs met k lens bytes lens' bytes' met' → Passed file n d bs from (k + 1) lens' bytes' met'
     passed-more h {kind} e {met'} part =
         let xs = p .stock .all in
         let l : k < length xs = omega (arith, p .stock .count) in

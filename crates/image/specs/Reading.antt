@@ -44,8 +44,8 @@ pub record Stocked (places : ℕ) (lens bytes : List ℕ) : Type 0 where
   pub holds : Holds all lens bytes
 
 -- an expression is read, and stored at place k of a shelf: all else that it held stays
-abbrev pub PartRead : Kind → ℕ → ℕ → List ℕ → Met → ℕ → List ℕ → List ℕ → List ℕ → List ℕ → Met → Type 0
-PartRead kind n d bs from k lens bytes lens' bytes' to =
+abbrev pub PutRead : Kind → ℕ → ℕ → List ℕ → Met → ℕ → List ℕ → List ℕ → List ℕ → List ℕ → Met → Type 0
+PutRead kind n d bs from k lens bytes lens' bytes' to =
     (xs : Expressions) → Holds xs lens bytes → k < length xs → (v : List ℕ) × Reads (expression kind (n - 1) d) bs from to v × Holds (set xs k v) lens' bytes'
 
 -- the kinds of a shelf's places: of a file's, or of a role's
@@ -58,6 +58,7 @@ abbrev pub ShelfRead : Format Expressions → List ℕ → Met → List ℕ → 
 ShelfRead F bs from lens bytes to = (xs : Expressions) × Reads F bs from to xs × Holds xs lens bytes
 
 -- so many roles or files are read, and all of them stand there, with none from their count up
-pub record RowsRead {X : Type 0} (make : Expressions → X) (none : X) (most : ℕ) (F : Format Expressions) (count : ℕ) (bs : List ℕ) (from to : Met) (all : List X) : Type 0 where
+pub record RowsRead {X : Type 0} (make : Expressions → X) (none : X) (most : ℕ) (F : Format Expressions) (count : ℕ) (bs : List ℕ) (from to : Met)
+    (all : List X) : Type 0 where
   pub as-read : ReadsAs (times count (λ i. F)) (λ rows. filled most none (map make rows)) bs from to all
   pub rows : length (as-read .value) ≡ count

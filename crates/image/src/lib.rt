@@ -34,7 +34,7 @@ ghost use Rattle.fields.specs.declared.Met.the-variants.{Read};
 ghost use Rattle.fields.specs.Reading.{ReadsSome};
 ghost use Rattle.image.specs.Image.{head, inUse, stated, shelf as shelfOf, roleKinds, fileKinds, policyImage};
 ghost use Rattle.image.specs.Load.{roleOf, fileOf, stateOf, Loads};
-ghost use Rattle.image.specs.Reading.{ReadsAs, TreeRead, PartRead, kindsOf, Stocked, ShelfRead, RowsRead};
+ghost use Rattle.image.specs.Reading.{ReadsAs, TreeRead, PutRead, kindsOf, Stocked, ShelfRead, RowsRead};
 
 // Mark `SPT`.
 const MARK_S: usize = 83;
@@ -164,7 +164,7 @@ fn read_part(
     bytes: &mut [u8],
 ) -> Met
     requires { ⌜ (0 < n) × (k < length (now lens)) × (longest * k + longest ≤ length (now bytes)) ⌝ }
-    ensures { λ r. ⌜ PartRead kind n (depth .0) (now (image .entry)) from k (now (lens .entry)) (now (bytes .entry)) (now (lens .exit)) (now (bytes .exit)) r ⌝ }
+    ensures { λ r. ⌜ PutRead kind n (depth .0) (now (image .entry)) from k (now (lens .entry)) (now (bytes .entry)) (now (lens .exit)) (now (bytes .exit)) r ⌝ }
 {
     let lead = fields::read_byte(image, from, 0, LONGEST, EXPRESSION_WRONG);
     let m = lead.value;

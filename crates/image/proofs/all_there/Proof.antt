@@ -32,7 +32,8 @@ enum-known-found c = search needs
 add-t15 : tie.Need-add-t15
 add-t15 c =
     let a = c .before .before .before .before .before .before in
-    let w = all-fault _ _ _ (a .args .m) (a .pre .0) (a .args .image .now) (a .args .at) (a .pre .1) (c .before .found .given .1) (c .before .before .before .scan .ensures) in
+    let e = c .before .found .given .1 in
+    let w = all-fault _ _ _ (a .args .m) (a .pre .0) (a .args .image .now) (a .args .at) (a .pre .1) e (c .before .before .before .scan .ensures) in
     omega (arith, w .0, a .pre .1, a .good)
 
 returns : tie.Need-returns
@@ -48,7 +49,8 @@ returns-2 c =
 returns-3 : tie.Need-returns-3
 returns-3 c =
     let a = c .before .before .before .before .before .before in
-    let w = all-fault _ _ _ (a .args .m) (a .pre .0) (a .args .image .now) (a .args .at) (a .pre .1) (c .before .found .given .1) (c .before .before .before .scan .ensures) in
+    let e = c .before .found .given .1 in
+    let w = all-fault _ _ _ (a .args .m) (a .pre .0) (a .args .image .now) (a .args .at) (a .pre .1) e (c .before .before .before .scan .ensures) in
     w .1
 
 pub all-there-spec : {M : Type 1} → statement M

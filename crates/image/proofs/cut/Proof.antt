@@ -30,7 +30,8 @@ add-t16 : tie.Need-add-t16
 add-t16 c =
     let a = c .before .before .before .before .before .before in
     let h = a .pre in
-    let w = cut-fault _ _ _ (a .args .m) (h .0) (a .args .image .now) (a .args .at) (h .1) (h .2) (c .before .found .given .1) (c .before .before .before .scan .ensures) in
+    let e = c .before .found .given .1 in
+    let w = cut-fault _ _ _ (a .args .m) (h .0) (a .args .image .now) (a .args .at) (h .1) (h .2) e (c .before .before .before .scan .ensures) in
     omega (arith, w .0, a .good)
 
 returns : tie.Need-returns
@@ -49,7 +50,8 @@ returns-3 : tie.Need-returns-3
 returns-3 c =
     let a = c .before .before .before .before .before .before in
     let h = a .pre in
-    let w = cut-fault _ _ _ (a .args .m) (h .0) (a .args .image .now) (a .args .at) (h .1) (h .2) (c .before .found .given .1) (c .before .before .before .scan .ensures) in
+    let e = c .before .found .given .1 in
+    let w = cut-fault _ _ _ (a .args .m) (h .0) (a .args .image .now) (a .args .at) (h .1) (h .2) e (c .before .before .before .scan .ensures) in
     w .1
 
 pub cut-spec : {M : Type 1} → statement M

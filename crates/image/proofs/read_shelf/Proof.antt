@@ -25,19 +25,25 @@ kind-at-requires c κs = tt
 
 read-part-requires : tie.Need-read-part-requires Inv-loop μ-loop
 read-part-requires c κs =
-    let w = c .before .before .before .before .loop .inv in
-    (c .before .before .before .before .before .before .before .before .pre .0, omega (arith, w .1, passed-lengths _ _ _ _ (w .2)), omega (arith, w .1, passed-room _ _ _ _ (w .2)))
+    let at-loop = c .before .before .before .before in
+    let w = at-loop .loop .inv in
+    let some = at-loop .before .before .before .before .pre .0 in
+    (some, omega (arith, w .1, passed-lengths _ _ _ _ (w .2)), omega (arith, w .1, passed-room _ _ _ _ (w .2)))
 
 add-k : tie.Need-add-k Inv-loop μ-loop
-add-k c = omega (arith, c .before .before .before .before .before .before .before .before .before .loop .inv .1, c .before .before .before .before .before .before .before .before .before .before .before .before .before .good)
+add-k c =
+    let at-loop = c .before .before .before .before .before .before .before .before .before in
+    omega (arith, at-loop .loop .inv .1, at-loop .before .before .before .before .good)
 
 loop-less : tie.Need-loop-less Inv-loop μ-loop
 loop-less c = omega arith
 
 loop-again : tie.Need-loop-again Inv-loop μ-loop
 loop-again c =
-    let w = c .before .before .before .before .before .before .before .before .before .loop .inv in
-    (omega (arith, w .1), w .1, passed-more _ _ _ _ (w .2) (omega (arith, w .1)) (c .before .before .before .before .before .before .before .kind-at .ensures) (c .before .before .before .before .read-part .ensures))
+    let part = c .before .before .before .before in
+    let kind = part .before .before .before in
+    let w = kind .before .before .loop .inv in
+    (omega (arith, w .1), w .1, passed-more _ _ _ _ (w .2) (omega (arith, w .1)) (kind .kind-at .ensures) (part .read-part .ensures))
 
 same-length : tie.Need-same-length Inv-loop μ-loop
 same-length c = let w = c .before .loop .inv in passed-lengths _ _ _ _ (w .2) ∙ sym (w .1)

@@ -1,4 +1,4 @@
--- `image::read_tree` meets its contract: the parents of the securons passed are read, and the others are zero. The measure is what is left of them. Assumes nothing.
+-- `image::read_tree` meets its contract: the parents of the securons passed are read, the others zero. The measure is what is left of them. Assumes nothing.
 use Prim.Native.Nat.{_<_, _≤_, _-_}
 use native.Mathlib.Omega.{arith}
 use borrow.Author.Needs.{zero≤}
