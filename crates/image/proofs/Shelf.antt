@@ -6,7 +6,7 @@ use Prim.Native.Nat.{ℕ, zero, suc, _+_, _*_, _-_, _<_, _≤_}
 use native.Mathlib.Decide.{ℕ-discrete}
 use native.Mathlib.Numerals.{add-one}
 use native.Mathlib.Omega.{arith}
-use lib.ListN.{length, take, drop, getD, set, replicate, length-append, length-map, length-set, length-replicate, getD-replicate, replicate-append-replicate}
+use lib.ListN.{length, take, drop, getD, set, replicate, length-map, length-set, length-replicate, getD-replicate, replicate-append-replicate}
 use lib.Seq.{take-all, take-suc-set, take-append-add, drop-append-add, getD-set-same, getD-set-other, set-getD}
 use Rattle.answer.specs.Numbers.{expressionWrong}
 use Rattle.expression.specs.declared.Kind.{Kind}

@@ -14,7 +14,7 @@ use Rattle.policy.specs.State.{mostRoles, mostFiles, rolePlaces, filePlaces}
 use Rattle.fields.specs.Format.{Refusal, Format}
 use Rattle.fields.specs.Means.{Judging, Test}
 use Rattle.fields.specs.Combine.{give, _>>=_, _>>_, times}
-use Rattle.fields.specs.Parts.{just, below, between, stretch, byByte, first, byte, firstTwo, word}
+use Rattle.fields.specs.Parts.{just, below, between, byByte, first, byte, firstTwo, word}
 use Rattle.fields.specs.Bounds.{NumbersUnder, under-then, under-times, under-stretch, under-value, under-alone}
 use Rattle.fields.specs.Bounds.{AtMost, most-then, most-times, most-stretch, most-value}
 use Rattle.fields.specs.Document.{alone}

@@ -24,7 +24,6 @@ use policy::State;
 use securon::Level;
 use securon::ROOM;
 use tree::Tree;
-ghost use mathlib.Core.Path.{_≡_};
 ghost use Prim.Native.Nat.{_+_, _*_, _-_, _<_, _≤_};
 ghost use lib.ListN.{length};
 ghost use Rattle.tree.specs.Tree.{InRange};
