@@ -29,11 +29,13 @@ pub record ReadsSome {A : Type 0} (F : Format A) (bs : List ℕ) (from to : Met)
   pub value : A
   pub reads : Reads F bs from to value
 
--- a number from low to high, of a format that is refused with a number of the table. In any case the value is in that range
+-- a number from low to high, of a format that is refused with a number of the table. In any case the value is in that range; where it is read, the next
+-- begins within the bytes or at their end
 pub record NumberRead (F : Test ℕ → Refusal → Format ℕ) (bs : List ℕ) (from : Met) (low high number : ℕ) (r : NumberMet) : Type 0 where
   pub reads : (d : Number number) → Reads (F (between low high) (record { number = number; listed = d })) bs from (r .met) (r .value)
   pub least : low ≤ r .value
   pub most : r .value ≤ high
+  pub within : (a : ℕ) → r .met ≡ Read a → a ≤ length bs
 
 -- the answer where nothing is to follow what was read: a refusal stays; done at the end; else bytes are left over, from there on
 abbrev pub Ends : List ℕ → Met → Answer → Type 0

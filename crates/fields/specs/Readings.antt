@@ -34,6 +34,12 @@ module _ {A : Type 0} (F : Format A) (bs : List ℕ) where
   unfolding Reads
   reads-from a v e f h = subst (λ (x : Met). Comes F bs a x v) e (f h)
 
+  -- of a refusal the value says nothing
+  pub reads-refused : (m : Met) {o : Met} {n k : ℕ} (v w : A) → o ≡ Refused n k → Reads F bs m o v → Reads F bs m o w
+  unfolding Reads
+  reads-refused (Refused i j) v w e f = f
+  reads-refused (Read a) v w e f = λ h. subst (λ (x : Met). Comes F bs a x w) (sym e) (subst (λ (x : Met). Comes F bs a x v) e (f h))
+
 -- no bytes
 pub reads-give : {A : Type 0} (v : A) (bs : List ℕ) (m : Met) → Reads (give v) bs m m v
 unfolding Reads
@@ -131,13 +137,22 @@ word-there bs a =
     let high = getD-take 2 (drop a bs) 1 0 (omega arith) ∙ getD-drop a bs 1 0 in
     omega (arith, low, high)
 
+-- what is refused is not read
+not-read : {n k a : ℕ} → Refused n k ≡ Read a → ⊥
+not-read e = let o : _≡_ {A = ℕ} 0 1 = cc in omega arith
+
 -- how a number of m bytes is read: it is not met, not all there, out of its range, or in it
 abbrev ranged : (m : ℕ) (make : List ℕ → ℕ) (low high number : ℕ) → Number number → Format ℕ
 ranged m make low high number d = valued m make (between low high) (record { number = number; listed = d })
 
 module _ (m : ℕ) (make : List ℕ → ℕ) (bs : List ℕ) {from : Met} (low high number : ℕ) (fit : low ≤ high) where
   pub number-stays : {n k : ℕ} → from ≡ Refused n k → NumberRead (valued m make) bs from low high number (record { met = from; value = low })
-  number-stays e = record { reads = λ d. reads-stays (ranged m make low high number d) bs low e; least = omega arith; most = fit }
+  number-stays e = record {
+    reads = λ d. reads-stays (ranged m make low high number d) bs low e;
+    least = omega arith;
+    most = fit;
+    within = λ a f. absurd (not-read (sym e ∙ f));
+  }
 
   pub number-early : {a : ℕ} → from ≡ Read a → length bs < a + m
       → NumberRead (valued m make) bs from low high number (record { met = Refused endsEarly (length bs); value = low })
@@ -146,6 +161,7 @@ module _ (m : ℕ) (make : List ℕ → ℕ) (bs : List ℕ) {from : Met} (low h
         value-missing m make (between low high) (record { number = number; listed = d }) bs a low h l);
     least = omega arith;
     most = fit;
+    within = λ b f. absurd (not-read f);
   }
 
 -- where its bytes are there, its value stands there
@@ -164,6 +180,7 @@ module _ (m : ℕ) (make : List ℕ → ℕ) (stands : List ℕ → ℕ → ℕ)
           reads-at (ranged m make low high number d) bs (Refused number a) low e (λ _. bad);
       least = omega arith;
       most = fit;
+      within = λ b f. absurd (not-read f);
     }
 
     pub number-in : low ≤ v → v ≤ high → NumberRead (valued m make) bs from low high number (record { met = Read (a + m); value = v })
@@ -175,6 +192,7 @@ module _ (m : ℕ) (make : List ℕ → ℕ) (stands : List ℕ → ℕ → ℕ)
           reads-at G bs (Read (a + m)) v e (λ _. subst (λ (u : ℕ). Comes G bs a (Read (a + m)) u) (sym same) good);
       least = f;
       most = g;
+      within = λ b i. let j : a + m ≡ b = cc in omega (arith, j);
     }
 
 -- so many bytes of any content

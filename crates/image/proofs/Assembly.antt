@@ -1,172 +1,127 @@
--- The whole image, from its stretches: its answer, and the policy that was read of it. Assumes nothing.
-use mathlib.Core.Path.{_≡_, refl, sym, ap, _∙_, subst}
-use mathlib.Core.List.{List, [], _∷_, _++_, append-nil}
-use mathlib.Core.Logic.{inl, inr}
-use Prim.Native.Nat.{ℕ, _+_, _≤_}
-use native.Mathlib.Omega.{arith}
-use lib.ListN.{length, getD, replicate, length-replicate, getD-replicate, drop-of-length-le}
-use Rattle.answer.specs.Numbers.{markWrong, countWrong}
-use Rattle.securon.specs.Sets.{securons}
+-- The whole image: each format follows those before it, and what they make is the state of the policy; the answer of it. Assumes nothing.
+use mathlib.Core.Path.{_≡_, refl, sym, _∙_, subst, subst₂}
+use mathlib.Core.List.{List}
+use mathlib.Core.Logic.{_⊎_, inl, inr}
+use Prim.Native.Nat.{ℕ, _-_}
+use lib.ListN.{length, replicate}
+use Rattle.answer.specs.Numbers.{done, countWrong}
+use Rattle.answer.specs.declared.Answer.{Answer}
+use Rattle.answer.specs.Answers.{Granted, Is}
 use Rattle.tree.specs.declared.Tree.{Tree}
-use Rattle.tree.specs.Tree.{IsDepth}
-use Rattle.policy.specs.declared.Slot.{Slot}
+use Rattle.tree.specs.Tree.{IsTree, IsDepth}
+use Rattle.tree.specs.Depth.{depthOf, depth-exactly}
+use Rattle.expression.specs.declared.Kind.{Kind}
+use Rattle.policy.specs.declared.Role.{Role}
+use Rattle.policy.specs.declared.File.{File}
 use Rattle.policy.specs.declared.State.{State}
-use Rattle.policy.specs.State.{mostRoles, mostFiles, slotCount, freeSlot, roleAt, fileAt}
-use Rattle.policy.specs.WellFormed.{WellFormed}
-use Rattle.policy.specs.Fine.{SlotIs}
-use Rattle.policy.specs.Whole.{free-held, fine-well-formed}
-use Rattle.image.specs.declared.Met.{Met}
-use Rattle.image.specs.declared.Met.the-variants.{Read, Refused}
-use Rattle.image.specs.declared.ByteMet.{ByteMet}
-use Rattle.image.specs.declared.TreeMet.{TreeMet}
-use Rattle.image.specs.declared.RolesMet.{RolesMet}
-use Rattle.image.specs.declared.FilesMet.{FilesMet}
-use Rattle.image.specs.Image.{each, markS, markP, markT, version1, parentBytes, roleBytes, fileBytes, imageOf}
-use Rattle.image.specs.Faults.{Byte, Within, Version, End, end, Meets, counted, headFields, parentFields, roleFields, fileFields, treeAt, Files, Shelves, Over, Grown, Whole, _then_}
-use Rattle.image.specs.Reading.{Follows, Stands, ByteRead, TreeRead, RolesRead, FilesRead, ImageRead}
-use Rattle.image.specs.Order.{not-both, same-end, byte-read, follows-read, follows-from, follows-start, follows-then, follows-map, follows-led, follows-one}
-use Rattle.image.specs.Standing.{stands-more, stands-byte}
+use Rattle.policy.specs.State.{mostRoles, mostFiles, slotCount, noRole, noFile}
+use Rattle.fields.specs.declared.Met.{Met}
+use Rattle.fields.specs.declared.Met.the-variants.{Read}
+use Rattle.fields.specs.declared.NumberMet.{NumberMet}
+use Rattle.fields.specs.Format.{Format}
+use Rattle.fields.specs.Combine.{_>>=_, times}
+use Rattle.fields.specs.Parts.{between, byte}
+use Rattle.fields.specs.Reading.{Reads, ReadsSome, NumberRead, Ends}
+use Rattle.fields.specs.Readings.{reads-then, reads-made, alone-ends}
+use Rattle.fields.specs.Loads.{answers-done, answers-refused, not-done}
+use Rattle.image.specs.Image.{Expressions, Policy, noCount, mostInVersion1, version1, inUse, image, roleKinds, fileKinds}
+use Rattle.image.specs.Image.{shelf, counted, parentBytes, treeOf, withFiles, withRoles, body, head, policyImage}
+use Rattle.image.specs.Load.{roleOf, fileOf, stateOf, Loads}
+use Rattle.image.specs.Reading.{ReadsAs, TreeRead, RowsRead}
 
--- a byte that was read stands there
-byte-step : (bs : List ℕ) (m : Met) (low high number : ℕ) (r : ByteMet) → ByteRead bs m low high number r → (b : ℕ) → r .met ≡ Read b → (a : ℕ) × (m ≡ Read a) × Stands bs a (r .value ∷ []) b
-byte-step bs m low high number r w b q =
-    let f = follows-from (Byte (Within low high) number) bs m b (subst (Follows m (Byte (Within low high) number) bs) q (w .met)) in
-    let g = byte-read (Within low high) number bs (f .0) b (f .2) in
-    (f .0, f .1, subst (Stands bs (f .0) (r .value ∷ [])) (sym (g .2)) (subst (λ (v : ℕ). Stands bs (f .0) (v ∷ []) (f .0 + 1)) (sym (w .is (f .0) b (f .1) q)) (stands-byte bs (f .0) (g .0))))
+-- a count, and so many
+counted-read : (most : ℕ) (F : Format Expressions) (bs : List ℕ) (m o : Met) (c : NumberMet) (rows : List Expressions)
+    → NumberRead byte bs m 0 most countWrong c → Reads (times (c .value) (λ i. F)) bs (c .met) o rows → Reads (counted most F) bs m o rows
+unfolding counted
+counted-read most F bs m o c rows w f =
+    reads-then (byte (between 0 most) noCount) (λ count. times count (λ i. F)) bs m (c .met) o (c .value) rows (w .reads (noCount .listed)) f
 
--- so does a byte of the mark, and the version
-mark-step : (bs : List ℕ) (x a b : ℕ) → Byte (λ y. y ≡ x) markWrong bs a (Read b) → Stands bs a (x ∷ []) b
-mark-step bs x a b w =
-    let g = byte-read (λ y. y ≡ x) markWrong bs a b w in
-    subst (Stands bs a (x ∷ [])) (sym (g .2)) (subst (λ (v : ℕ). Stands bs a (v ∷ []) (a + 1)) (g .1) (stands-byte bs a (g .0)))
-
-version-step : (bs : List ℕ) (a b : ℕ) → Version bs a (Read b) → Stands bs a (version1 ∷ 0 ∷ []) b
-version-step bs a b (inl w) = absurd (not-both refl (w .1))
-version-step bs a b (inr (l, inr (n, e))) = absurd (not-both refl e)
-version-step bs a b (inr (l, inl (v, e))) =
-    let low : getD bs a 0 ≡ 1 = omega (arith, v) in
-    let high : getD bs (a + 1) 0 ≡ 0 = omega (arith, v) in
-    let next : b ≡ a + 1 + 1 = omega (arith, same-end refl e) in
-    subst (Stands bs a (1 ∷ 0 ∷ [])) (sym next)
-    (stands-more bs a (a + 1) (a + 1 + 1) (1 ∷ []) (0 ∷ [])
-    (subst (λ (x : ℕ). Stands bs a (x ∷ []) (a + 1)) low (stands-byte bs a (omega arith)))
-    (subst (λ (x : ℕ). Stands bs (a + 1) (x ∷ []) (a + 1 + 1)) high (stands-byte bs (a + 1) l)))
-
-head-step : (bs : List ℕ) (b : ℕ) → Meets headFields bs 0 (Read b) → Stands bs 0 (markS ∷ markP ∷ markT ∷ version1 ∷ 0 ∷ []) b
-head-step bs b (inl w) = absurd (w .0)
-head-step bs b (inr (i, x, inl w)) = absurd (w .0)
-head-step bs b (inr (i, x, inr (j, y, inl w))) = absurd (w .0)
-head-step bs b (inr (i, x, inr (j, y, inr (k, z, inl w)))) = absurd (w .0)
-head-step bs b (inr (i, x, inr (j, y, inr (k, z, inr (l, v, e))))) =
-    stands-more bs 0 i b (markS ∷ []) (markP ∷ markT ∷ version1 ∷ 0 ∷ []) (mark-step bs markS 0 i x)
-    (stands-more bs i j b (markP ∷ []) (markT ∷ version1 ∷ 0 ∷ []) (mark-step bs markP i j y)
-    (stands-more bs j k b (markT ∷ []) (version1 ∷ 0 ∷ []) (mark-step bs markT j k z)
-    (subst (Stands bs k (version1 ∷ 0 ∷ [])) (sym (same-end refl e)) (version-step bs k l v))))
-
-end-step : (bs : List ℕ) (a b : ℕ) → End bs a (Read b) → length bs ≤ a
-end-step bs a b (inl (h, e)) = h
-end-step bs a b (inr (n, e)) = absurd (not-both refl e)
-
--- the parents, and what stands over their tree
-follows-grown : (n : ℕ) (t : Tree) (bs : List ℕ) (m r o : Met) → Follows m (Meets (parentFields n)) bs r → ((a b : ℕ) → m ≡ Read a → r ≡ Read b → t ≡ treeAt bs a n) → Follows r (Over t) bs o → Follows m (Grown n) bs o
-unfolding Follows
-follows-grown n t bs (Refused x y) r o f same g = subst (λ (z : Met). Follows z (Over t) bs o) f g
-follows-grown n t bs (Read a) (Refused x y) o f same g = subst (λ (z : Met). Grown n bs a z) (sym g) (inl (tt, f))
-follows-grown n t bs (Read a) (Read b) o f same g = inr (b, f, subst (λ (z : Tree). Over z bs b o) (same a b refl refl) g)
-
-module _
-    (bs : List ℕ)
-    (head : Met)
-    (heads : Meets headFields bs 0 head)
-    (c1 : ByteMet)
-    (count : ByteRead bs head 1 securons countWrong c1)
-    (t : TreeMet)
-    (tree : TreeRead bs (c1 .met) (c1 .value) t)
-    (d : ℕ)
-    (deep : IsDepth (t .tree) d)
-    (c2 : ByteMet)
-    (role-count : ByteRead bs (t .met) 0 mostRoles countWrong c2)
-    (rs : RolesMet)
-    (roles-read : RolesRead bs (c2 .met) (c2 .value) (c1 .value) d rs)
-    (c3 : ByteMet)
-    (file-count : ByteRead bs (rs .met) 0 mostFiles countWrong c3)
-    (fs : FilesMet)
-    (files-read : FilesRead bs (c3 .met) (c3 .value) (c1 .value) d fs)
-    (m : Met)
-    (ends : Follows (fs .met) End bs m)
+module _ (bs : List ℕ) {top : Met} (h : ReadsSome (head (inUse .latest)) bs (Read 0) top)
+    {c : NumberMet} (n-read : NumberRead byte bs top 1 mostInVersion1 countWrong c)
+    {grown : Met} {t : Tree} (t-read : TreeRead (c .value) bs (c .met) grown t) {d : ℕ} (deep : IsDepth t d)
+    {rc : NumberMet} (rc-read : NumberRead byte bs grown 0 mostRoles countWrong rc)
+    {roled : Met} {roles : List Role} (r-read : RowsRead roleOf noRole mostRoles (shelf roleKinds (c .value - 1) d) (rc .value) bs (rc .met) roled roles)
+    {fc : NumberMet} (fc-read : NumberRead byte bs roled 0 mostFiles countWrong fc)
+    {filed : Met} {files : List File} (f-read : RowsRead fileOf noFile mostFiles (shelf fileKinds (c .value - 1) d) (fc .value) bs (fc .met) filed files)
   where
-    roles : RolesRead bs (c2 .met) (c2 .value) (t .tree .n) d rs
-    roles = subst (λ (n : ℕ). RolesRead bs (c2 .met) (c2 .value) n d rs) (sym (tree .count)) roles-read
+    abbrev ps : List ℕ
+    ps = t-read .as-read .value
 
-    files : FilesRead bs (c3 .met) (c3 .value) (t .tree .n) d fs
-    files = subst (λ (n : ℕ). FilesRead bs (c3 .met) (c3 .value) n d fs) (sym (tree .count)) files-read
+    abbrev p : Policy
+    p = record { tree = treeOf ps; roles = r-read .as-read .value; files = f-read .as-read .value }
 
-    abbrev policy : State
-    policy = record { tree = t .tree; nroles = c2 .value; roles = rs .roles; nfiles = c3 .value; files = fs .files; slots = replicate slotCount freeSlot }
+    depth-same : d ≡ depthOf (treeOf ps)
+    depth-same =
+        let is = t-read .as-read .is in
+        depth-exactly (treeOf ps) (subst IsTree is (t-read .grown)) d .0 (subst (λ (x : Tree). IsDepth x d) is deep)
 
-    -- in this order
-    shelves : Follows (t .met) (Shelves (t .tree .n) d) bs m
-    shelves =
-        follows-led (Within 0 mostRoles) countWrong (λ r. Meets (each r (λ i. roleFields (t .tree .n) d)) then Files (t .tree .n) d) bs (t .met) (c2 .met) m (c2 .value) (role-count .met) (role-count .is)
-        (follows-then (Meets (each (c2 .value) (λ i. roleFields (t .tree .n) d))) (Files (t .tree .n) d) bs (c2 .met) (rs .met) m (roles .met)
-        (follows-led (Within 0 mostFiles) countWrong (λ f. Meets (each f (λ i. fileFields (t .tree .n) d)) then Meets (end ∷ [])) bs (rs .met) (c3 .met) m (c3 .value) (file-count .met) (file-count .is)
-        (follows-then (Meets (each (c3 .value) (λ i. fileFields (t .tree .n) d))) (Meets (end ∷ [])) bs (c3 .met) (fs .met) m (files .met) (follows-one end bs (fs .met) m ends))))
+    -- the shelves, over the parents and the depth of their tree
+    over : (kinds : List Kind) (count : ℕ) (m o : Met) (rows : List Expressions) → Reads (times count (λ i. shelf kinds (c .value - 1) d)) bs m o rows
+        → Reads (times count (λ i. shelf kinds (length ps) (depthOf (treeOf ps)))) bs m o rows
+    over kinds count m o rows f = subst₂ (λ (i j : ℕ). Reads (times count (λ _. shelf kinds i j)) bs m o rows) (sym (t-read .count)) depth-same f
 
-    whole : Whole bs 0 m
-    whole =
-        follows-start Whole bs
-        (follows-then (Meets headFields) (counted 1 securons Grown) bs (Read 0) head m (follows-read (Meets headFields) bs refl heads)
-        (follows-led (Within 1 securons) countWrong Grown bs head (c1 .met) m (c1 .value) (count .met) (count .is)
-        (follows-grown (c1 .value) (t .tree) bs (c1 .met) (t .met) m (tree .met) (tree .is)
-        (follows-map (Shelves (t .tree .n) d) (Over (t .tree)) bs (t .met) m (λ at w. (d, deep, w)) shelves))))
+    all-files : Reads (withFiles version1 ps (p .roles)) bs roled filed p
+    unfolding withFiles
+    all-files =
+        let F = shelf fileKinds (length ps) (depthOf (treeOf ps)) in
+        reads-made (counted mostFiles F) (λ files. record { tree = treeOf ps; roles = p .roles; files = files }) bs roled filed (p .files)
+        (counted-read mostFiles F bs roled filed fc (p .files) fc-read (over fileKinds (fc .value) (fc .met) filed (p .files) (f-read .as-read .reads)))
 
-    well-formed : WellFormed policy
-    well-formed = fine-well-formed policy d deep (record {
-      tree = tree .fine;
-      role-count = role-count .range .1;
-      file-count = file-count .range .1;
-      roles = record { room = roles .room; each = roles .are };
-      files = record { room = files .room; each = files .are };
-      slots = record {
-        room = length-replicate slotCount freeSlot;
-        each = λ i h. subst (SlotIs (c2 .value)) (sym (getD-replicate slotCount i freeSlot freeSlot h)) (λ r e. absurd (free-held e));
-      };
+    all-roles : Reads (withRoles version1 ps) bs grown filed p
+    unfolding withRoles
+    all-roles =
+        let F = shelf roleKinds (length ps) (depthOf (treeOf ps)) in
+        reads-then (counted mostRoles F) (withFiles version1 ps) bs grown roled filed (p .roles) p
+        (counted-read mostRoles F bs grown roled rc (p .roles) rc-read (over roleKinds (rc .value) (rc .met) roled (p .roles) (r-read .as-read .reads)))
+        all-files
+
+    all-body : Reads (body version1) bs top filed p
+    unfolding body
+    all-body =
+        let parents = parentBytes (c .value - 1) in
+        reads-then (byte (between 1 mostInVersion1) noCount) (λ count. parentBytes (count - 1) >>= withRoles version1) bs top (c .met) filed (c .value) p
+        (n-read .reads (noCount .listed))
+        (reads-then parents (withRoles version1) bs (c .met) grown filed ps p (t-read .as-read .reads) all-roles)
+
+    pub image-read : ReadsAs (policyImage inUse) stateOf bs (Read 0) filed (record {
+      tree = t;
+      nroles = rc .value;
+      roles = roles;
+      nfiles = fc .value;
+      files = files;
+      slots = replicate slotCount 0;
     })
-
-    -- where all of it is read, all of it stands there
-    stands : (b : ℕ) → m ≡ Read b → bs ≡ imageOf policy
-    stands b q =
-        let s0 = follows-from End bs (fs .met) b (subst (Follows (fs .met) End bs) q ends) in
-        let fF = each (c3 .value) (λ i. fileFields (t .tree .n) d) in
-        let rF = each (c2 .value) (λ i. roleFields (t .tree .n) d) in
-        let s1 = follows-from (Meets fF) bs (c3 .met) (s0 .0) (subst (Follows (c3 .met) (Meets fF) bs) (s0 .1) (files .met)) in
-        let s2 = byte-step bs (rs .met) 0 mostFiles countWrong c3 file-count (s1 .0) (s1 .1) in
-        let s3 = follows-from (Meets rF) bs (c2 .met) (s2 .0) (subst (Follows (c2 .met) (Meets rF) bs) (s2 .1) (roles .met)) in
-        let s4 = byte-step bs (t .met) 0 mostRoles countWrong c2 role-count (s3 .0) (s3 .1) in
-        let s5 = follows-from (Meets (parentFields (c1 .value))) bs (c1 .met) (s4 .0) (subst (Follows (c1 .met) (Meets (parentFields (c1 .value))) bs) (s4 .1) (tree .met)) in
-        let s6 = byte-step bs head 1 securons countWrong c1 count (s5 .0) (s5 .1) in
-        let x1 : List ℕ = each (c3 .value) (λ i. fileBytes (fileAt policy i)) in
-        let y2 : List ℕ = each (c2 .value) (λ i. roleBytes (roleAt policy i)) in
-        let x2 : List ℕ = c3 .value ∷ x1 in
-        let x3 : List ℕ = y2 ++ x2 in
-        let x4 : List ℕ = c2 .value ∷ x3 in
-        let x5 : List ℕ = parentBytes (t .tree) ++ x4 in
-        let x6 : List ℕ = t .tree .n ∷ x5 in
-        let e1 : Stands bs (s1 .0) x1 (s0 .0) = files .stands (s1 .0) (s0 .0) (s1 .1) (s0 .1) in
-        let e2 : Stands bs (s2 .0) x2 (s0 .0) = stands-more bs (s2 .0) (s1 .0) (s0 .0) (c3 .value ∷ []) x1 (s2 .2) e1 in
-        let e3 : Stands bs (s3 .0) x3 (s0 .0) = stands-more bs (s3 .0) (s2 .0) (s0 .0) y2 x2 (roles .stands (s3 .0) (s2 .0) (s3 .1) (s2 .1)) e2 in
-        let e4 : Stands bs (s4 .0) x4 (s0 .0) = stands-more bs (s4 .0) (s3 .0) (s0 .0) (c2 .value ∷ []) x3 (s4 .2) e3 in
-        let e5 : Stands bs (s5 .0) x5 (s0 .0) = stands-more bs (s5 .0) (s4 .0) (s0 .0) (parentBytes (t .tree)) x4 (tree .stands (s5 .0) (s4 .0) (s5 .1) (s4 .1)) e4 in
-        let e6 : Stands bs (s6 .0) x6 (s0 .0) = stands-more bs (s6 .0) (s5 .0) (s0 .0) (t .tree .n ∷ []) x5 (subst (λ (x : ℕ). Stands bs (s6 .0) (x ∷ []) (s5 .0)) (sym (tree .count)) (s6 .2)) e5 in
-        let e : Stands bs 0 (imageOf policy) (s0 .0) = stands-more bs 0 (s6 .0) (s0 .0) (markS ∷ markP ∷ markT ∷ version1 ∷ 0 ∷ []) x6 (head-step bs (s6 .0) (subst (Meets headFields bs 0) (s6 .1) heads)) e6 in
-        e ∙ ap (λ (l : List ℕ). imageOf policy ++ l) (drop-of-length-le bs (end-step bs (s0 .0) b (s0 .2))) ∙ append-nil (imageOf policy)
-
-    pub image-read : ImageRead bs (record { met = m; state = policy })
+    unfolding policyImage
     image-read = record {
-      met = whole;
-      is = λ b q. record {
-        well-formed = well-formed;
-        free = λ i h. ap (λ (x : Slot). x .hold) (getD-replicate slotCount i freeSlot freeSlot h);
-        is = stands b q;
-      };
+      value = p;
+      reads = reads-then (head (inUse .latest)) (λ v. body version1) bs (Read 0) top filed (h .value) p (h .reads) all-body;
+      is = cc (t-read .as-read .is, r-read .rows, r-read .as-read .is, f-read .rows, f-read .as-read .is);
     }
+
+-- what a load gives back: only an image that is taken is granted
+module _ {bs : List ℕ} {o : Met} {s : State} (w : ReadsAs (policyImage inUse) stateOf bs (Read 0) o s) (a : Answer) (e : Ends bs o a) (before : State) where
+  abbrev Ended : Type 0
+  Ended = (policyImage inUse .Takes bs (w .value) × Is a done 0) ⊎ ((n : ℕ) × (k : ℕ) × image .Refuses bs n k × Is a n k)
+
+  ended : Ended
+  ended = alone-ends (policyImage inUse) bs (w .value) o a (w .reads) e
+
+  pub load-granted : Granted a → Loads bs before (record { answer = a; state = s })
+  load-granted g = go ended
+    where
+      go : Ended → Loads bs before (record { answer = a; state = s })
+      go (inl (t, i)) = record {
+        answers = answers-done image bs a (w .value, t) i;
+        leaves = record { on-grant = λ _. (w .value, t, w .is); on-refusal = λ n. absurd (n g) };
+      }
+      go (inr (n, k, r, i)) = absurd (not-done image bs n k r (sym (i .number) ∙ g))
+
+  pub load-refused : (Granted a → ⊥) → Loads bs before (record { answer = a; state = before })
+  load-refused n = go ended
+    where
+      go : Ended → Loads bs before (record { answer = a; state = before })
+      go (inl (t, i)) = absurd (n (i .number))
+      go (inr (m, k, r, i)) = record {
+        answers = answers-refused image bs a r i;
+        leaves = record { on-grant = λ g. absurd (n g); on-refusal = λ _. refl };
+      }

@@ -1,137 +1,201 @@
--- The reading of a shelf, place after place. Assumes nothing.
-use mathlib.Core.Path.{_≡_, refl, sym, ap, _∙_, subst}
+-- A shelf holds expressions: what is put at a place joins those that it holds; how they are read, place after place. Assumes nothing.
+use mathlib.Core.Path.{_≡_, refl, sym, ap, ap₂, _∙_, subst}
 use mathlib.Core.Bool.{Bool}
-use mathlib.Core.List.{List, [], _∷_, _++_}
-use mathlib.Core.Logic.{inl, inr}
-use Prim.Native.Nat.{ℕ, _+_, _-_, _<_, _≤_}
+use mathlib.Core.List.{List, [], _∷_, _++_, map, flatMap, append-assoc}
+use Prim.Native.Nat.{ℕ, zero, suc, _+_, _*_, _-_, _<_, _≤_}
+use native.Mathlib.Decide.{ℕ-discrete}
+use native.Mathlib.Numerals.{add-one}
 use native.Mathlib.Omega.{arith}
-use lib.ListN.{length, take, drop, getD, set, length-drop}
-use lib.Seq.{length-take-le}
+use lib.ListN.{length, take, drop, getD, set, replicate, length-map, length-set, length-replicate, getD-replicate, replicate-append-replicate}
+use lib.Seq.{take-all, take-suc-set, take-append-add, drop-append-add, getD-set-same, getD-set-other, set-getD}
+use Rattle.answer.specs.Numbers.{expressionWrong}
 use Rattle.expression.specs.declared.Kind.{Kind}
-use Rattle.expression.specs.Bytes.{longest, Right, InOrder}
-use Rattle.shelf.specs.Shelf.{storedAt, putBytes, HasPlaces}
-use Rattle.shelf.specs.Fine.{kindAt, ShelfFine}
-use Rattle.shelf.specs.Kept.{put-places, put-fine, put-here, put-there}
-use Rattle.image.specs.declared.Met.{Met}
-use Rattle.image.specs.declared.Met.the-variants.{Read, Refused}
-use Rattle.image.specs.Image.{expressionBytes}
-use Rattle.image.specs.Faults.{Expression, Meets, Field, expression}
-use Rattle.image.specs.Reading.{Follows, Stands, PartRead, ShelfRead, shelfFields, shelfBytes}
-use Rattle.image.specs.Order.{not-both, same-end, no-refusal, byte-read, follows-from, follows-one, follows-more, follows-none}
-use Rattle.image.specs.Standing.{each-more, each-same, stands-more, stands-byte, stands-bytes, between-none}
+use Rattle.expression.specs.declared.Kind.the-variants.{Privilege}
+use Rattle.expression.specs.Bytes.{longest}
+use Rattle.shelf.specs.Shelf.{padded, putBytes, PutAt}
+use Rattle.shelf.specs.Fine.{kindAt}
+use Rattle.shelf.specs.Laws.{length-padded}
+use Rattle.policy.specs.declared.Role.{Role}
+use Rattle.policy.specs.declared.File.{File}
+use Rattle.fields.specs.declared.Met.{Met}
+use Rattle.fields.specs.declared.Met.the-variants.{Read, Refused}
+use Rattle.fields.specs.declared.NumberMet.{NumberMet}
+use Rattle.fields.specs.Format.{Format}
+use Rattle.fields.specs.Combine.{times}
+use Rattle.fields.specs.Parts.{between, byte}
+use Rattle.fields.specs.Reading.{Reads, ReadsSome, NumberRead}
+use Rattle.fields.specs.Readings.{reads-stays, reads-refused, reads-give, reads-then, reads-more}
+use Rattle.image.specs.Image.{Expressions, noExpression, stated, expression, shelf}
+use Rattle.image.specs.Load.{roleOf, fileOf}
+use Rattle.image.specs.Reading.{ReadsAs, Short, Holds, Stocked, PutRead, kindsOf, ShelfRead}
+use Rattle.image.specs.Made.{room-length, kinds-are}
+use Rattle.image.proofs.Stated.{Found, stated-found}
 
--- an expression that was read, from the length byte at a to b
-pub record Found (kind : Kind) (n d : ℕ) (bs : List ℕ) (a b : ℕ) : Type 0 where
-  pub start : a + 1 ≤ b
-  pub within : b ≤ length bs
-  pub long : length (take (b - (a + 1)) (drop (a + 1) bs)) ≡ b - (a + 1)
-  pub in-order : InOrder kind n d (take (b - (a + 1)) (drop (a + 1) bs))
-  pub stands : Stands bs a (expressionBytes (take (b - (a + 1)) (drop (a + 1) bs))) b
+-- x put at place k of a shelf that holds xs
+map-set : (xs : Expressions) (k : ℕ) (x : List ℕ) → set (map length xs) k (length x) ≡ map length (set xs k x)
+map-set [] k x = refl
+map-set (y ∷ xs) zero x = refl
+map-set (y ∷ xs) (suc k) x = ap (λ (l : List ℕ). length y ∷ l) (map-set xs k x)
 
-module _ (kind : Kind) (n d : ℕ) (bs : List ℕ) where
-  found : (a b : ℕ) → Expression kind n d bs a (Read b) → Found kind n d bs a b
-  found a b (inl (r, x)) = absurd r
-  found a b (inr (next, x, inr (h, inl (g, e)))) = absurd (not-both refl e)
-  found a b (inr (next, x, inr (h, inr (k, l, f, e)))) = absurd (not-both refl e)
-  found a b (inr (next, x, inl (h, inr (k, f, e)))) = absurd (not-both refl e)
-  found a b (inr (next, x, inl (h, inl (r, e)))) =
-      let w = byte-read (λ m. m ≤ longest) 6 bs a next x in
-      let q : b ≡ next + getD bs a 0 = same-end refl e in
-      let m : getD bs a 0 ≡ b - (a + 1) = omega (arith, w .2) in
-      let long : length (take (b - (a + 1)) (drop (a + 1) bs)) ≡ b - (a + 1) = length-take-le (b - (a + 1)) (drop (a + 1) bs) (omega (arith, w .2, length-drop (a + 1) bs)) in
-      let end : a + 1 + (b - (a + 1)) ≡ b = omega (arith, w .2) in
-      record {
-        start = omega (arith, w .2);
-        within = omega (arith, w .2);
-        long = long;
-        in-order = (
-          omega (arith, w .1),
-          subst (λ (i : ℕ). Right kind n d (take i (drop (a + 1) bs))) m (subst (λ (i : ℕ). Right kind n d (take (getD bs a 0) (drop i bs))) (w .2) r),
-        );
-        stands = stands-more bs a (a + 1) b (length (take (b - (a + 1)) (drop (a + 1) bs)) ∷ []) (take (b - (a + 1)) (drop (a + 1) bs))
-            (subst (λ (v : ℕ). Stands bs a (v ∷ []) (a + 1)) (m ∙ sym long) (stands-byte bs a (w .0)))
-            (subst (Stands bs (a + 1) (take (b - (a + 1)) (drop (a + 1) bs))) end (stands-bytes bs (a + 1) (b - (a + 1))));
-      }
+put-set : (xs : Expressions) → Short xs → (k : ℕ) → k < length xs → (x : List ℕ) → putBytes (flatMap padded xs) k x ≡ flatMap padded (set xs k x)
+unfolding flatMap putBytes
+put-set [] short k h x = absurd (omega arith)
+put-set (y ∷ xs) short zero h x =
+    let l = length-padded y (short 0 (omega arith)) in
+    let e : longest * 0 + longest ≡ length (padded y) + 0 = omega (arith, l) in
+    ap (λ (i : ℕ). padded x ++ drop i (padded y ++ flatMap padded xs)) e ∙ ap (λ (r : List ℕ). padded x ++ r) (drop-append-add (padded y) (flatMap padded xs) 0)
+put-set (y ∷ xs) short (suc k) h x =
+    let l = length-padded y (short 0 (omega arith)) in
+    let rest = flatMap padded xs in
+    let front : longest * suc k ≡ length (padded y) + longest * k = omega (arith, l) in
+    let back : longest * suc k + longest ≡ length (padded y) + (longest * k + longest) = omega (arith, l) in
+    let head = ap (λ (i : ℕ). take i (padded y ++ rest)) front ∙ take-append-add (padded y) rest (longest * k) in
+    let tail = ap (λ (i : ℕ). drop i (padded y ++ rest)) back ∙ drop-append-add (padded y) rest (longest * k + longest) in
+    ap₂ (λ (a b : List ℕ). (a ++ padded x) ++ b) head tail
+    ∙ ap (λ (a : List ℕ). a ++ drop (longest * k + longest) rest) (append-assoc (padded y) (take (longest * k) rest) (padded x))
+    ∙ append-assoc (padded y) (take (longest * k) rest ++ padded x) (drop (longest * k + longest) rest)
+    ∙ ap (λ (r : List ℕ). padded y ++ r) (put-set xs (λ i j. short (suc i) (omega arith)) k (omega arith) x)
 
-  pub expression-found : (m r : Met) {a b : ℕ} → Follows m (Expression kind n d) bs r → m ≡ Read a → r ≡ Read b → Found kind n d bs a b
-  expression-found m r {a} {b} f p q =
-      let w = follows-from (Expression kind n d) bs m b (subst (Follows m (Expression kind n d) bs) q f) in
-      subst (λ (i : ℕ). Found kind n d bs i b) (same-end (w .1) p) (found (w .0) b (w .2))
+module _ {xs : Expressions} {lens bytes : List ℕ} (holds : Holds xs lens bytes) where
+  -- the room of such a shelf
+  pub holds-lengths : length lens ≡ length xs
+  holds-lengths = ap length (holds .lengths) ∙ length-map xs length
 
--- no place yet
-pub shelf-none : (bs : List ℕ) (from : Met) (file : Bool) (n d places : ℕ) (lens bytes : List ℕ) → HasPlaces places lens bytes → ShelfFine file n d lens bytes → ShelfRead bs from file n d places 0 lens bytes from
-shelf-none bs from file n d places lens bytes room fine = record { met = follows-none bs from; room = room; fine = fine; stands = between-none bs from }
+  pub holds-room : length bytes ≡ longest * length xs
+  holds-room = ap length (holds .room) ∙ room-length xs (holds .short)
 
--- one place more
-module _ {bs : List ℕ} {from : Met} {file : Bool} {n d places k : ℕ} {lens bytes : List ℕ} {m : Met} (was : ShelfRead bs from file n d places k lens bytes m) (h : k < places) where
-  more-met : {lens' bytes' : List ℕ} (r : Met) → PartRead bs m file n d k lens bytes lens' bytes' r → Follows from (Meets (shelfFields file n d (k + 1))) bs r
-  more-met r part = subst (λ (fs : List Field). Follows from (Meets fs) bs r) (sym (each-more k (λ (i : ℕ). expression (kindAt file i) n d ∷ []))) (follows-more (shelfFields file n d k) (expression (kindAt file k) n d ∷ []) bs from m r (was .met) (follows-one (expression (kindAt file k) n d) bs m r (part .met)))
+  pub holds-put : (k : ℕ) → k < length xs → (x : List ℕ) → length x ≤ longest → {lens' bytes' : List ℕ} → PutAt lens bytes k x lens' bytes'
+      → Holds (set xs k x) lens' bytes'
+  holds-put k h x few w = record {
+    short = λ j l. go j l (ℕ-discrete j k);
+    lengths = w .lengths ∙ ap (λ (l : List ℕ). set l k (length x)) (holds .lengths) ∙ map-set xs k x;
+    room = w .stored ∙ ap (λ (b : List ℕ). putBytes b k x) (holds .room) ∙ put-set xs (holds .short) k h x;
+  }
+    where
+      go : (j : ℕ) → j < length (set xs k x) → Dec (j ≡ k) → length (getD (set xs k x) j []) ≤ longest
+      go j l (yes e) =
+          let same : getD (set xs k x) j [] ≡ x = ap (λ (i : ℕ). getD (set xs k x) i []) e ∙ getD-set-same xs k x [] h in
+          omega (arith, few, ap length same)
+      go j l (no n) = omega (arith, ap length (getD-set-other xs k j x [] n), holds .short j (omega (arith, length-set xs k x)))
 
-  -- with x put at place k, the bytes of the places up to it
-  more-bytes : (x : List ℕ) → length x ≤ longest → shelfBytes (k + 1) (set lens k (length x)) (putBytes bytes k x) ≡ shelfBytes k lens bytes ++ expressionBytes x
-  more-bytes x hx =
-      each-more k (λ (i : ℕ). expressionBytes (storedAt (set lens k (length x)) (putBytes bytes k x) i))
-      ∙ ap (λ (l : List ℕ). l ++ expressionBytes (storedAt (set lens k (length x)) (putBytes bytes k x) k))
-      (each-same k _ _ (λ j l. ap expressionBytes (put-there (was .room) k h x hx j (omega arith) (λ e. omega arith) (was .fine j (omega (arith, was .room .lengths)) .part .short))))
-      ∙ ap (λ (l : List ℕ). shelfBytes k lens bytes ++ expressionBytes l) (put-here (was .room) k h x hx)
+pub stocked-room : {places : ℕ} {lens bytes : List ℕ} → Stocked places lens bytes → length bytes ≡ longest * places
+stocked-room s = holds-room (s .holds) ∙ ap (λ (i : ℕ). longest * i) (s .count)
 
-  pub shelf-more : {lens' bytes' : List ℕ} (r : Met) → PartRead bs m file n d k lens bytes lens' bytes' r → ShelfRead bs from file n d places (k + 1) lens' bytes' r
-  shelf-more {lens'} {bytes'} (Refused number place) part =
-      let same = part .kept tt in
-      record {
-        met = more-met (Refused number place) part;
-        room = rw (same .0, same .1) (was .room);
-        fine = rw (same .0, same .1) (was .fine);
-        stands = λ a b p q. absurd (not-both q refl);
-      }
-  shelf-more {lens'} {bytes'} (Read b) part =
-      let w = follows-from (Expression (kindAt file k) n d) bs m b (part .met) in
-      let got = part .stored (w .0) b (w .1) refl in
-      let x = got .0 in
-      let hx : length x ≤ longest = got .1 .0 in
-      record {
-        met = more-met (Read b) part;
-        room = rw (got .3, got .4) (put-places (was .room) k h x hx);
-        fine = rw (got .3, got .4) (put-fine (was .room) k h x hx file n d (was .fine) (got .1));
-        stands = λ a b' p q.
-            let e = more-bytes x hx in
-            rw (got .3, got .4, e, same-end q refl)
-            (stands-more bs a (w .0) b (shelfBytes k lens bytes) (expressionBytes x) (was .stands a (w .0) p (w .1)) (got .2));
-      }
+-- a shelf of zeros holds expressions of length 0
+zero-lengths : (places : ℕ) → _≡_ {A = List ℕ} (replicate places 0) (map length (replicate {A = List ℕ} places []))
+zero-lengths zero = refl
+zero-lengths (suc k) = ap (λ (l : List ℕ). 0 ∷ l) (zero-lengths k)
 
--- the kind as it was told
-pub kind-as : {told kind : Kind} (n d : ℕ) (bs : List ℕ) (m r : Met) → told ≡ kind → Follows m (Expression told n d) bs r → Follows m (Expression kind n d) bs r
-kind-as n d bs m r e f = subst (λ (k : Kind). Follows m (Expression k n d) bs r) e f
+zero-room : (places : ℕ) → _≡_ {A = List ℕ} (replicate (longest * places) 0) (flatMap padded (replicate {A = List ℕ} places []))
+unfolding flatMap padded
+zero-room zero = refl
+zero-room (suc k) =
+    let e : longest * suc k ≡ longest + longest * k = omega arith in
+    ap (λ (i : ℕ). replicate i 0) e
+    ∙ sym (replicate-append-replicate {A = ℕ} longest (longest * k) 0)
+    ∙ ap (λ (l : List ℕ). replicate longest 0 ++ l) (zero-room k)
 
-module _ (bs : List ℕ) (m : Met) (file : Bool) (n d k : ℕ) (lens bytes : List ℕ) (r : Met) (met : Follows m (Expression (kindAt file k) n d) bs r) where
-  -- a refusal stores nothing
-  pub part-refused : {number place : ℕ} → r ≡ Refused number place → PartRead bs m file n d k lens bytes lens bytes r
-  part-refused e = record { met = met; stored = λ a b p q. absurd (not-both q e); kept = λ _. (refl, refl) }
+pub stocked-none : (places : ℕ) → Stocked places (replicate places 0) (replicate (longest * places) 0)
+stocked-none places =
+    let long : length (replicate {A = List ℕ} places []) ≡ places = length-replicate {A = List ℕ} places [] in
+    record {
+      all = replicate {A = List ℕ} places [];
+      count = long;
+      holds = record {
+        short = λ k h. omega (arith, ap length (getD-replicate {A = List ℕ} places k [] [] (omega (arith, long))));
+        lengths = zero-lengths places;
+        room = zero-room places;
+      };
+    }
 
-  -- after a refusal nothing is read
-  pub part-never : {number place b : ℕ} → m ≡ Refused number place → r ≡ Read b → ⊥
-  part-never {number} {place} {b} e q =
-      let w = follows-from (Expression (kindAt file k) n d) bs m b (subst (Follows m (Expression (kindAt file k) n d) bs) q met) in
-      not-both (w .1) e
+-- an expression with its length byte: it is not met or refused, and nothing is stored; or it is stored
+module _ (kind : Kind) (n d : ℕ) (bs : List ℕ) {from : Met} {r : NumberMet}
+    (lead : NumberRead byte bs from 0 longest expressionWrong r)
+  where
+    abbrev Rest : Format (List ℕ)
+    Rest = stated kind (n - 1) d (r .value)
 
-  -- an expression that is read is stored
-  pub part-stored : {a b : ℕ} (bytes' : List ℕ) → m ≡ Read a → r ≡ Read b → bytes' ≡ putBytes bytes k (take (b - (a + 1)) (drop (a + 1) bs)) → PartRead bs m file n d k lens bytes (set lens k (b - (a + 1))) bytes' r
-  part-stored {a} {b} bytes' p q e =
-      let f = expression-found (kindAt file k) n d bs m r met p q in
-      record {
-        met = met;
-        stored = λ i j s t.
-            let ei : a ≡ i = same-end p s in
-            let ej : b ≡ j = same-end q t in (
-              take (b - (a + 1)) (drop (a + 1) bs),
-              f .in-order,
-              subst (λ (y : ℕ). Stands bs i (expressionBytes (take (b - (a + 1)) (drop (a + 1) bs))) y) ej (subst (λ (y : ℕ). Stands bs y (expressionBytes (take (b - (a + 1)) (drop (a + 1) bs))) b) ei (f .stands)),
-              ap (set lens k) (sym (f .long)),
-              e,
-            );
-        kept = λ w. absurd (no-refusal q w);
-      }
+    led : (o : Met) (v : List ℕ) → Reads Rest bs (r .met) o v → Reads (expression kind (n - 1) d) bs from o v
+    unfolding expression
+    led o v f =
+        reads-then (byte (between 0 longest) noExpression) (stated kind (n - 1) d) bs from (r .met) o (r .value) v (lead .reads (noExpression .listed)) f
 
--- all places
-pub shelf-all : {bs : List ℕ} {from : Met} {file : Bool} {n d places k : ℕ} {lens bytes : List ℕ} {m : Met} → ShelfRead bs from file n d places k lens bytes m → k ≡ places → ShelfRead bs from file n d places places lens bytes m
-shelf-all {bs} {from} {file} {n} {d} {places} {k} {lens} {bytes} {m} w e = subst (λ (i : ℕ). ShelfRead bs from file n d places i lens bytes m) e w
+    -- where what comes is refused, whatever the value, the shelf holds what it held
+    kept : (k : ℕ) {lens bytes : List ℕ} (o : Met) → ((v : List ℕ) → Reads Rest bs (r .met) o v) → PutRead kind n d bs from k lens bytes lens bytes o
+    kept k {lens} {bytes} o f xs holds h =
+        let v = getD xs k [] in
+        (v, led o v (f v), subst (λ (ys : Expressions). Holds ys lens bytes) (sym (set-getD xs k [])) holds)
+
+    pub part-led : (k : ℕ) {lens bytes : List ℕ} {i j : ℕ} → r .met ≡ Refused i j → PutRead kind n d bs from k lens bytes lens bytes (r .met)
+    part-led k e = kept k (r .met) (λ v. reads-stays Rest bs v e)
+
+    module _ {at : ℕ} (e : r .met ≡ Read at) {o : Met} (w : ReadsSome (stated kind (n - 1) d (r .value)) bs (Read at) o) where
+      from-there : (v : List ℕ) → Reads Rest bs (Read at) o v → Reads Rest bs (r .met) o v
+      from-there v f = subst (λ (m : Met). Reads Rest bs m o v) (sym e) f
+
+      pub part-refused : (k : ℕ) {lens bytes : List ℕ} {i j : ℕ} → o ≡ Refused i j → PutRead kind n d bs from k lens bytes lens bytes o
+      part-refused k q = kept k o (λ v. from-there v (reads-refused Rest bs (Read at) (w .value) v q (w .reads)))
+
+      -- the bytes of the expression
+      pub part-found : {end : ℕ} → o ≡ Read end → Found (r .value) bs at end (w .value)
+      part-found q = stated-found kind (n - 1) d (r .value) bs at (lead .within at e) w q
+
+      pub part-stored : (k : ℕ) {end : ℕ} → o ≡ Read end → {lens bytes lens' bytes' : List ℕ} → PutAt lens bytes k (take (end - at) (drop at bs)) lens' bytes'
+          → PutRead kind n d bs from k lens bytes lens' bytes' (Read end)
+      part-stored k {end} q {lens} {bytes} {lens'} {bytes'} put xs holds h =
+          let found = part-found q in
+          let v = w .value in
+          let stored = subst (λ (x : List ℕ). PutAt lens bytes k x lens' bytes') (found .is) put in
+          let read = subst (λ (m : Met). Reads (expression kind (n - 1) d) bs from m v) q (led o v (from-there v (w .reads))) in
+          (v, read, holds-put holds k h v (omega (arith, found .long, lead .most)) stored)
+
+-- the places passed: the shelf has its room, and what it holds there is what was read
+pub record Passed (file : Bool) (n d : ℕ) (bs : List ℕ) (from : Met) (k : ℕ) (lens bytes : List ℕ) (met : Met) : Type 0 where
+  pub stock : Stocked (length (kindsOf file)) lens bytes
+  pub reads : Reads (times k (λ i. expression (getD (kindsOf file) i Privilege) (n - 1) d)) bs from met (take k (stock .all))
+
+module _ (file : Bool) (n d : ℕ) (bs : List ℕ) {from : Met} where
+  pub passed-none : {lens bytes : List ℕ} → Stocked (length (kindsOf file)) lens bytes → Passed file n d bs from 0 lens bytes from
+  passed-none s = record { stock = s; reads = reads-give [] bs from }
+
+  module _ {k : ℕ} {lens bytes : List ℕ} {met : Met} (p : Passed file n d bs from k lens bytes met) where
+    -- the room of the shelf
+    pub passed-lengths : length lens ≡ length (kindsOf file)
+    passed-lengths = holds-lengths (p .stock .holds) ∙ p .stock .count
+
+    pub passed-room : length bytes ≡ longest * length (kindsOf file)
+    passed-room = stocked-room (p .stock)
+
+    pub passed-more : k < length (kindsOf file) → {kind : Kind} → kind ≡ kindAt file k → {met' : Met} {lens' bytes' : List ℕ}
+        → PutRead kind n d bs met k lens bytes lens' bytes' met' → Passed file n d bs from (k + 1) lens' bytes' met'
+    passed-more h {kind} e {met'} part =
+        let xs = p .stock .all in
+        let l : k < length xs = omega (arith, p .stock .count) in
+        let (v, f, holds) = part xs (p .stock .holds) l in
+        let one = subst (λ (q : Kind). Reads (expression q (n - 1) d) bs met met' v) (e ∙ sym (kinds-are file k h)) f in
+        let each : ℕ → Format (List ℕ) = λ i. expression (getD (kindsOf file) i Privilege) (n - 1) d in
+        let all : take k xs ++ (v ∷ []) ≡ take (k + 1) (set xs k v) = sym (ap (λ (i : ℕ). take i (set xs k v)) (add-one k) ∙ take-suc-set xs k v l) in
+        record {
+          stock = record { all = set xs k v; count = length-set xs k v ∙ p .stock .count; holds = holds };
+          reads = subst (Reads (times (k + 1) each) bs from met') all (reads-more k each bs from met met' (take k xs) v (p .reads) one);
+        }
+
+    pub passed-all : k ≡ length (kindsOf file) → ShelfRead (shelf (kindsOf file) (n - 1) d) bs from lens bytes met
+    unfolding shelf
+    passed-all e =
+        let xs = p .stock .all in
+        let each : ℕ → Format (List ℕ) = λ i. expression (getD (kindsOf file) i Privilege) (n - 1) d in
+        let all : take k xs ≡ xs = take-all k xs (omega (arith, p .stock .count)) in
+        (xs, subst (λ (i : ℕ). Reads (times i each) bs from met xs) e (subst (Reads (times k each) bs from met) all (p .reads)), p .stock .holds)
+
+-- a role and a file are such shelves
+module _ (F : Format Expressions) (bs : List ℕ) {from to : Met} {lens bytes : List ℕ} where
+  pub role-read : ShelfRead F bs from lens bytes to → ReadsAs F roleOf bs from to (record { lens = lens; bytes = bytes })
+  unfolding roleOf
+  role-read (xs, f, holds) =
+      record { value = xs; reads = f; is = ap₂ {C = Role} (λ (l b : List ℕ). record { lens = l; bytes = b }) (holds .lengths) (holds .room) }
+
+  pub file-read : ShelfRead F bs from lens bytes to → ReadsAs F fileOf bs from to (record { lens = lens; bytes = bytes })
+  unfolding fileOf
+  file-read (xs, f, holds) =
+      record { value = xs; reads = f; is = ap₂ {C = File} (λ (l b : List ℕ). record { lens = l; bytes = b }) (holds .lengths) (holds .room) }

@@ -1,22 +1,37 @@
--- What a load gives back and leaves (01, "Requests": load; "Numbers given back").
+-- What a load gives back and leaves (01, "Requests": load; "Numbers given back"). Definitions only.
+use mathlib.Core.Path.{_≡_}
+use mathlib.Core.List.{List, map, flatMap}
 use Prim.Native.Nat.{ℕ}
-use mathlib.Core.List.{List}
-use Rattle.answer.specs.Numbers.{done}
-use Rattle.answer.specs.declared.Answer.{Answer}
-use Rattle.answer.specs.Answers.{Is, Leaves}
+use lib.ListN.{length, replicate}
+use Rattle.answer.specs.Answers.{Leaves}
+use Rattle.policy.specs.declared.Role.{Role}
+use Rattle.policy.specs.declared.File.{File}
 use Rattle.policy.specs.declared.State.{State}
-use Rattle.image.specs.declared.Met.{Met}
-use Rattle.image.specs.declared.Met.the-variants.{Read, Refused}
+use Rattle.shelf.specs.Shelf.{padded}
+use Rattle.policy.specs.State.{mostRoles, mostFiles, slotCount, Free, slotWith, noRole, noFile}
+use Rattle.fields.specs.Document.{Answers}
 use Rattle.image.specs.declared.Loaded.{Loaded}
-use Rattle.image.specs.Image.{IsImage}
-use Rattle.image.specs.Faults.{Whole}
+use Rattle.image.specs.Image.{Expressions, Policy, filled, image}
 
--- an image that is read gives number 0, at place 0; a refusal gives its number and place
-abbrev pub Gives : Met → Answer → Type 0
-Gives (Read next) a = Is a done 0
-Gives (Refused number place) a = Is a number place
+-- a role, a file of these expressions: their lengths, and their bytes, each expression's with zero up to 48
+unfoldable pub roleOf : Expressions → Role
+roleOf xs = record { lens = map length xs; bytes = flatMap padded xs }
 
--- the answer is that of the first fault; a grant leaves the policy whose image these bytes are, with all slots free, and a refusal the state as it was
+unfoldable pub fileOf : Expressions → File
+fileOf xs = record { lens = map length xs; bytes = flatMap padded xs }
+
+-- the state that a policy makes: all slots are free
+abbrev pub stateOf : Policy → State
+stateOf p = record {
+  tree = p .tree;
+  nroles = length (p .roles);
+  roles = filled mostRoles noRole (map roleOf (p .roles));
+  nfiles = length (p .files);
+  files = filled mostFiles noFile (map fileOf (p .files));
+  slots = replicate slotCount (slotWith Free);
+}
+
+-- where the bytes are the image of a policy, the answer is done, and the state is the one that it makes; else the image is refused, and the state is as it was
 pub record Loads (bytes : List ℕ) (before : State) (r : Loaded) : Type 0 where
-  pub answers : (o : Met) × Whole bytes 0 o × Gives o (r .answer)
-  pub leaves : Leaves (r .answer) (IsImage bytes) before (r .state)
+  pub answers : Answers image bytes (r .answer)
+  pub leaves : Leaves (r .answer) (λ s. (p : Policy) × image .Takes bytes p × (s ≡ stateOf p)) before (r .state)

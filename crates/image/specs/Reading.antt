@@ -1,98 +1,64 @@
--- What each function that reads a stretch of the image tells. A device of the proofs.
+-- What the readers of an image tell: of the format that each reads, and of what they make of its value. Definitions only.
 use mathlib.Core.Path.{_≡_}
-use mathlib.Core.Bool.{Bool, true}
-use mathlib.Core.List.{List, [], _∷_, _++_}
-use Prim.Native.Nat.{ℕ, _<_}
-use lib.Dec.{ltb}
-use lib.ListN.{length, drop, getD, set}
-use Rattle.expression.specs.Bytes.{InOrder}
-use Rattle.policy.specs.State.{mostRoles, mostFiles, offRole, offFile}
-use Rattle.shelf.specs.Shelf.{storedAt, putBytes, HasPlaces}
-use Rattle.shelf.specs.Fine.{kindAt, ShelfFine}
-use Rattle.policy.specs.Fine.{TreeFine, OneIs, roleShelves, fileShelves}
-use Rattle.image.specs.declared.Met.{Met}
-use Rattle.image.specs.declared.Met.the-variants.{Read, Refused}
-use Rattle.image.specs.declared.ByteMet.{ByteMet}
-use Rattle.image.specs.declared.TreeMet.{TreeMet}
-use Rattle.image.specs.declared.RoleMet.{RoleMet}
-use Rattle.image.specs.declared.FileMet.{FileMet}
-use Rattle.image.specs.declared.RolesMet.{RolesMet}
-use Rattle.image.specs.declared.FilesMet.{FilesMet}
-use Rattle.image.specs.declared.ImageMet.{ImageMet}
-use Rattle.image.specs.Image.{each, parentBytes, expressionBytes, roleBytes, fileBytes, IsImage}
-use Rattle.image.specs.Faults.{Stretch, IsRefusal, Byte, Within, Expression, Meets, Field, expression, parentFields, roleFields, fileFields, treeAt, Whole}
+use mathlib.Core.Bool.{Bool, true, false}
+use mathlib.Core.List.{List, [], map, flatMap}
+use Prim.Native.Nat.{ℕ, _-_, _<_, _≤_}
+use lib.ListN.{length, getD, set}
+use Rattle.tree.specs.declared.Tree.{Tree}
+use Rattle.tree.specs.Tree.{IsTree}
+use Rattle.expression.specs.declared.Kind.{Kind}
+use Rattle.expression.specs.Bytes.{longest}
+use Rattle.shelf.specs.Shelf.{padded}
+use Rattle.fields.specs.declared.Met.{Met}
+use Rattle.fields.specs.Format.{Format}
+use Rattle.fields.specs.Combine.{times}
+use Rattle.fields.specs.Reading.{Reads}
+use Rattle.image.specs.Image.{Expressions, expression, parentBytes, filled, treeOf, roleKinds, fileKinds}
 
--- F is met where m says that the next begins; where m is a refusal, it stays
-unfoldable pub Follows : Met → Stretch → List ℕ → Met → Type 0
-Follows (Read at) F bs r = F bs at r
-Follows (Refused number place) F bs r = r ≡ Refused number place
+-- F is read, and x is what is made of its value
+pub record ReadsAs {A X : Type 0} (F : Format A) (make : A → X) (bs : List ℕ) (from to : Met) (x : X) : Type 0 where
+  pub value : A
+  pub reads : Reads F bs from to value
+  pub is : x ≡ make value
 
--- x stands in bs from the place a to the place b
-abbrev pub Stands : List ℕ → ℕ → List ℕ → ℕ → Type 0
-Stands bs a x b = drop a bs ≡ x ++ drop b bs
+-- the parents of n securons are read, and t is their tree; it is one in any case
+pub record TreeRead (n : ℕ) (bs : List ℕ) (from to : Met) (t : Tree) : Type 0 where
+  pub as-read : ReadsAs (parentBytes (n - 1)) treeOf bs from to t
+  pub count : length (as-read .value) ≡ n - 1
+  pub grown : IsTree t
 
--- where both are read, x stands between them
-abbrev pub Between : List ℕ → Met → List ℕ → Met → Type 0
-Between bs from x to = (a b : ℕ) → from ≡ Read a → to ≡ Read b → Stands bs a x b
+-- every expression has at most 48 bytes
+abbrev pub Short : Expressions → Type 0
+Short xs = (k : ℕ) → k < length xs → length (getD xs k []) ≤ longest
 
--- a byte; its value is in range in any case
-pub record ByteRead (bs : List ℕ) (from : Met) (low high number : ℕ) (r : ByteMet) : Type 0 where
-  pub met : Follows from (Byte (Within low high) number) bs (r .met)
-  pub range : Within low high (r .value)
-  pub is : (a b : ℕ) → from ≡ Read a → r .met ≡ Read b → r .value ≡ getD bs a 0
+-- a shelf holds these expressions: their lengths, and their bytes, each expression's with zero up to 48
+pub record Holds (xs : Expressions) (lens bytes : List ℕ) : Type 0 where
+  pub short : Short xs
+  pub lengths : lens ≡ map length xs
+  pub room : bytes ≡ flatMap padded xs
 
--- the parents; they are a tree in any case
-pub record TreeRead (bs : List ℕ) (from : Met) (n : ℕ) (r : TreeMet) : Type 0 where
-  pub met : Follows from (Meets (parentFields n)) bs (r .met)
-  pub fine : TreeFine (r .tree)
-  pub count : r .tree .n ≡ n
-  pub is : (a b : ℕ) → from ≡ Read a → r .met ≡ Read b → r .tree ≡ treeAt bs a n
-  pub stands : Between bs from (parentBytes (r .tree)) (r .met)
+-- so many
+pub record Stocked (places : ℕ) (lens bytes : List ℕ) : Type 0 where
+  pub all : Expressions
+  pub count : length all ≡ places
+  pub holds : Holds all lens bytes
 
--- the fields of a shelf by place
-abbrev pub shelfFields : Bool → ℕ → ℕ → ℕ → List Field
-shelfFields file n d places = each places (λ k. expression (kindAt file k) n d ∷ [])
+-- an expression is read, and stored at place k of a shelf: all else that it held stays
+abbrev pub PutRead : Kind → ℕ → ℕ → List ℕ → Met → ℕ → List ℕ → List ℕ → List ℕ → List ℕ → Met → Type 0
+PutRead kind n d bs from k lens bytes lens' bytes' to =
+    (xs : Expressions) → Holds xs lens bytes → k < length xs → (v : List ℕ) × Reads (expression kind (n - 1) d) bs from to v × Holds (set xs k v) lens' bytes'
 
--- the bytes of a shelf by place
-abbrev pub shelfBytes : ℕ → List ℕ → List ℕ → List ℕ
-shelfBytes places lens bytes = each places (λ k. expressionBytes (storedAt lens bytes k))
+-- the kinds of a shelf's places: of a file's, or of a role's
+abbrev pub kindsOf : Bool → List Kind
+kindsOf true = fileKinds
+kindsOf false = roleKinds
 
--- what is stored of a place: an expression in order that stands there; or, with a refusal, nothing
-pub record PartRead (bs : List ℕ) (from : Met) (file : Bool) (n d k : ℕ) (lens bytes lens' bytes' : List ℕ) (r : Met) : Type 0 where
-  pub met : Follows from (Expression (kindAt file k) n d) bs r
-  pub stored : (a b : ℕ) → from ≡ Read a → r ≡ Read b → (x : List ℕ) × InOrder (kindAt file k) n d x × Stands bs a (expressionBytes x) b × (lens' ≡ set lens k (length x)) × (bytes' ≡ putBytes bytes k x)
-  pub kept : IsRefusal r → (lens' ≡ lens) × (bytes' ≡ bytes)
+-- expressions are read, and the shelf holds them
+abbrev pub ShelfRead : Format Expressions → List ℕ → Met → List ℕ → List ℕ → Met → Type 0
+ShelfRead F bs from lens bytes to = (xs : Expressions) × Reads F bs from to xs × Holds xs lens bytes
 
--- the first k places of a shelf: it is fine, and what is read stands in it
-pub record ShelfRead (bs : List ℕ) (from : Met) (file : Bool) (n d places k : ℕ) (lens bytes : List ℕ) (r : Met) : Type 0 where
-  pub met : Follows from (Meets (shelfFields file n d k)) bs r
-  pub room : HasPlaces places lens bytes
-  pub fine : ShelfFine file n d lens bytes
-  pub stands : Between bs from (shelfBytes k lens bytes) r
-
-pub record RoleRead (bs : List ℕ) (from : Met) (n d : ℕ) (r : RoleMet) : Type 0 where
-  pub met : Follows from (Meets (roleFields n d)) bs (r .met)
-  pub is : OneIs roleShelves true n d (r .role)
-  pub stands : Between bs from (roleBytes (r .role)) (r .met)
-
-pub record FileRead (bs : List ℕ) (from : Met) (n d : ℕ) (r : FileMet) : Type 0 where
-  pub met : Follows from (Meets (fileFields n d)) bs (r .met)
-  pub is : OneIs fileShelves true n d (r .file)
-  pub stands : Between bs from (fileBytes (r .file)) (r .met)
-
--- the first i of the room for rows, each of these fields: those are used and the others zero, and what is read stands in them
-pub record Rows {A : Type 0} (off : A) (bytesOf : A → List ℕ) (Is : Bool → A → Type 0) (fields : List Field) (most : ℕ) (bs : List ℕ) (from : Met) (i : ℕ) (rows : List A) (r : Met) : Type 0 where
-  pub met : Follows from (Meets (each i (λ _. fields))) bs r
-  pub room : length rows ≡ most
-  pub are : (j : ℕ) → j < most → Is (ltb j i) (getD rows j off)
-  pub stands : Between bs from (each i (λ j. bytesOf (getD rows j off))) r
-
-abbrev pub RolesRead : List ℕ → Met → ℕ → ℕ → ℕ → RolesMet → Type 0
-RolesRead bs from count n d r = Rows offRole roleBytes (λ used. OneIs roleShelves used n d) (roleFields n d) mostRoles bs from count (r .roles) (r .met)
-
-abbrev pub FilesRead : List ℕ → Met → ℕ → ℕ → ℕ → FilesMet → Type 0
-FilesRead bs from count n d r = Rows offFile fileBytes (λ used. OneIs fileShelves used n d) (fileFields n d) mostFiles bs from count (r .files) (r .met)
-
-pub record ImageRead (bs : List ℕ) (r : ImageMet) : Type 0 where
-  pub met : Whole bs 0 (r .met)
-  pub is : (b : ℕ) → r .met ≡ Read b → IsImage bs (r .state)
+-- so many roles or files are read, and all of them stand there, with none from their count up
+pub record RowsRead {X : Type 0} (make : Expressions → X) (none : X) (most : ℕ) (F : Format Expressions) (count : ℕ) (bs : List ℕ) (from to : Met)
+    (all : List X) : Type 0 where
+  pub as-read : ReadsAs (times count (λ i. F)) (λ rows. filled most none (map make rows)) bs from to all
+  pub rows : length (as-read .value) ≡ count

@@ -1,8 +1,6 @@
 -- `image::all_there` meets its contract: the scan of the stated bytes says it. Assumes nothing.
-use mathlib.Core.Path.{subst}
 use native.Mathlib.Omega.{arith}
-use Rattle.expression.specs.Bytes.{Finds}
-use Rattle.image.proofs.Bytes.{all-whole, all-short, all-fault}
+use Rattle.image.proofs.Stated.{all-whole, all-short, all-fault}
 use borrow.Author.Needs.{needs}
 use Rattle.image.proofs.all_there.Statement.{statement}
 use Rattle.image.proofs.all_there.Tie as tie
@@ -34,23 +32,26 @@ enum-known-found c = search needs
 add-t15 : tie.Need-add-t15
 add-t15 c =
     let a = c .before .before .before .before .before .before in
-    let w = all-fault _ _ _ (a .args .m) (a .args .image .now) (a .args .at) (a .pre .1) (subst (Finds _ _ _ _) (c .before .found .given .1) (c .before .before .before .scan .ensures)) in
+    let e = c .before .found .given .1 in
+    let w = all-fault _ _ _ (a .args .m) (a .pre .0) (a .args .image .now) (a .args .at) (a .pre .1) e (c .before .before .before .scan .ensures) in
     omega (arith, w .0, a .pre .1, a .good)
 
 returns : tie.Need-returns
 returns c =
     let a = c .before .before .before .before .before in
-    all-whole _ _ _ (a .args .m) (a .args .image .now) (a .args .at) (a .pre .1) (subst (Finds _ _ _ _) (c .enum-told .given .1) (c .before .before .scan .ensures))
+    all-whole _ _ _ (a .args .m) (a .pre .0) (a .args .image .now) (a .args .at) (a .pre .1) (c .enum-told .given .1) (c .before .before .scan .ensures)
 
 returns-2 : tie.Need-returns-2
 returns-2 c =
     let a = c .before .before .before .before .before in
-    all-short _ _ _ (a .args .m) (a .args .image .now) (a .args .at) (a .pre .1) (subst (Finds _ _ _ _) (c .enum-told2 .given .1) (c .before .before .scan .ensures))
+    all-short _ _ _ (a .args .m) (a .pre .0) (a .args .image .now) (a .args .at) (a .pre .1) (c .enum-told2 .given .1) (c .before .before .scan .ensures)
 
 returns-3 : tie.Need-returns-3
 returns-3 c =
     let a = c .before .before .before .before .before .before in
-    all-fault _ _ _ (a .args .m) (a .args .image .now) (a .args .at) (a .pre .1) (subst (Finds _ _ _ _) (c .before .found .given .1) (c .before .before .before .scan .ensures)) .1
+    let e = c .before .found .given .1 in
+    let w = all-fault _ _ _ (a .args .m) (a .pre .0) (a .args .image .now) (a .args .at) (a .pre .1) e (c .before .before .before .scan .ensures) in
+    w .1
 
 pub all-there-spec : {M : Type 1} → statement M
 all-there-spec =

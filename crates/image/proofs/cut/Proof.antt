@@ -1,8 +1,6 @@
 -- `image::cut` meets its contract: the scan of the bytes that are there says it. Assumes nothing.
-use mathlib.Core.Path.{subst}
 use native.Mathlib.Omega.{arith}
-use Rattle.expression.specs.Bytes.{Finds}
-use Rattle.image.proofs.Bytes.{cut-whole, cut-short, cut-fault}
+use Rattle.image.proofs.Stated.{cut-whole, cut-short, cut-fault}
 use borrow.Author.Needs.{needs}
 use Rattle.image.proofs.cut.Statement.{statement}
 use Rattle.image.proofs.cut.Tie as tie
@@ -31,23 +29,30 @@ enum-known-found c = search needs
 add-t16 : tie.Need-add-t16
 add-t16 c =
     let a = c .before .before .before .before .before .before in
-    let w = cut-fault _ _ _ (a .args .m) (a .args .image .now) (a .args .at) (a .pre .2) (subst (Finds _ _ _ _) (c .before .found .given .1) (c .before .before .before .scan .ensures)) in
+    let h = a .pre in
+    let e = c .before .found .given .1 in
+    let w = cut-fault _ _ _ (a .args .m) (h .0) (a .args .image .now) (a .args .at) (h .1) (h .2) e (c .before .before .before .scan .ensures) in
     omega (arith, w .0, a .good)
 
 returns : tie.Need-returns
 returns c =
     let a = c .before .before .before .before .before in
-    cut-whole _ _ _ (a .args .m) (a .args .image .now) (a .args .at) (a .pre .2) (subst (Finds _ _ _ _) (c .enum-told .given .1) (c .before .before .scan .ensures))
+    let h = a .pre in
+    cut-whole _ _ _ (a .args .m) (h .0) (a .args .image .now) (a .args .at) (h .1) (h .2) (c .enum-told .given .1) (c .before .before .scan .ensures)
 
 returns-2 : tie.Need-returns-2
 returns-2 c =
     let a = c .before .before .before .before .before in
-    cut-short _ _ _ (a .args .m) (a .args .image .now) (a .args .at) (a .pre .2) (subst (Finds _ _ _ _) (c .enum-told2 .given .1) (c .before .before .scan .ensures))
+    let h = a .pre in
+    cut-short _ _ _ (a .args .m) (h .0) (a .args .image .now) (a .args .at) (h .1) (h .2) (c .enum-told2 .given .1) (c .before .before .scan .ensures)
 
 returns-3 : tie.Need-returns-3
 returns-3 c =
     let a = c .before .before .before .before .before .before in
-    cut-fault _ _ _ (a .args .m) (a .args .image .now) (a .args .at) (a .pre .2) (subst (Finds _ _ _ _) (c .before .found .given .1) (c .before .before .before .scan .ensures)) .1
+    let h = a .pre in
+    let e = c .before .found .given .1 in
+    let w = cut-fault _ _ _ (a .args .m) (h .0) (a .args .image .now) (a .args .at) (h .1) (h .2) e (c .before .before .before .scan .ensures) in
+    w .1
 
 pub cut-spec : {M : Type 1} → statement M
 cut-spec =

@@ -1,8 +1,6 @@
 -- `image::read_file` meets its contract: a shelf of zeros is read into. Assumes nothing.
-use mathlib.Core.Path.{refl}
-use mathlib.Core.Bool.{true}
 use Rattle.policy.specs.State.{filePlaces}
-use Rattle.image.proofs.Row.{file-read, fine-none}
+use Rattle.image.proofs.Shelf.{stocked-none, file-read}
 use borrow.Author.Needs.{needs}
 use Rattle.image.proofs.read_file.Statement.{statement}
 use Rattle.image.proofs.read_file.Tie as tie
@@ -14,10 +12,10 @@ slice-aggregate-read-shelf-2 : tie.Need-slice-aggregate-read-shelf-2
 slice-aggregate-read-shelf-2 c = search needs
 
 read-shelf-requires : tie.Need-read-shelf-requires
-read-shelf-requires c κs = (c .before .before .before .pre, refl, fine-none true _ _ filePlaces)
+read-shelf-requires c κs = (c .before .before .before .pre, stocked-none filePlaces)
 
 returns : tie.Need-returns
-returns c = file-read _ _ _ _ _ (c .before .before .read-shelf .ensures)
+returns c = file-read _ _ (c .before .before .read-shelf .ensures)
 
 pub read-file-spec : {M : Type 1} → statement M
 read-file-spec =

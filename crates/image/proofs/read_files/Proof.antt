@@ -1,25 +1,24 @@
 -- `image::read_files` meets its contract: the files passed are read, and the others are zero. The measure is what is left of them. Assumes nothing.
 use Prim.Native.Nat.{_≤_, _-_}
 use native.Mathlib.Omega.{arith}
-use borrow.Author.Needs.{needs}
-use Rattle.policy.specs.State.{mostFiles, offFile, noFile}
-use Rattle.policy.specs.Fine.{OneIs, fileShelves}
-use Rattle.image.specs.Image.{fileBytes}
-use Rattle.image.specs.Faults.{fileFields}
-use Rattle.image.specs.Reading.{Rows}
-use Rattle.image.proofs.Row.{rows-none, rows-more, rows-all, no-file}
+use borrow.Author.Needs.{zero≤}
+use Rattle.policy.specs.State.{mostFiles, noFile}
+use Rattle.image.specs.Image.{shelf, fileKinds}
+use Rattle.image.specs.Load.{fileOf}
+use Rattle.image.specs.Reading.{RowsRead}
+use Rattle.image.proofs.Rows.{rows-none, rows-more, rows-all}
 use Rattle.image.proofs.read_files.Statement.{statement}
 use Rattle.image.proofs.read_files.Tie as tie
 
 abbrev Inv-loop : tie.InvT-loop
 Inv-loop image count n depth files₀ met₀ i₀ files met i =
-    (i ≤ count) × Rows offFile fileBytes (λ used. OneIs fileShelves used n (depth .0)) (fileFields n (depth .0)) mostFiles image met₀ i files met
+    (i ≤ count) × RowsRead fileOf noFile mostFiles (shelf fileKinds (n - 1) (depth .0)) i image met₀ met files
 
 abbrev μ-loop : tie.MeasureT-loop
 μ-loop image count n depth files₀ met₀ i₀ files met i = count - i
 
 loop-holds : tie.Need-loop-holds Inv-loop μ-loop
-loop-holds c = (search needs, rows-none _ _ _ _ _ _ _ noFile (no-file _ _))
+loop-holds c = (zero≤, rows-none _ noFile _ _ _)
 
 read-file-requires : tie.Need-read-file-requires Inv-loop μ-loop
 read-file-requires c κs = c .before .before .before .pre .0
@@ -39,11 +38,10 @@ loop-less c = omega arith
 loop-again : tie.Need-loop-again Inv-loop μ-loop
 loop-again c =
     let w = c .before .before .before .loop .inv in
-    let r = c .before .read-file .ensures in
-    (omega arith, rows-more _ _ _ _ _ _ _ (w .1) (omega (arith, c .before .before .before .before .before .pre .1)) _ _ (r .met) (r .is) (r .stands))
+    (omega arith, rows-more _ _ _ _ _ (w .1) (omega (arith, c .before .before .before .before .before .pre .1)) (c .before .read-file .ensures))
 
 returns : tie.Need-returns Inv-loop μ-loop
-returns c = let w = c .before .loop .inv in rows-all _ _ _ _ _ _ _ (w .1) (omega (arith, w .0))
+returns c = let w = c .before .loop .inv in rows-all _ _ _ _ _ (w .1) (omega (arith, w .0))
 
 pub read-files-spec : {M : Type 1} → statement M
 read-files-spec =

@@ -1,4 +1,4 @@
--- `image::read_image` meets its contract: each stretch follows those before it, and what they read is the policy. Assumes nothing.
+-- `image::read_image` meets its contract: each format follows those before it, and what they make is the state of the policy. Assumes nothing.
 use Rattle.image.proofs.Assembly.{image-read}
 use borrow.Author.Needs.{needs}
 use Rattle.image.proofs.read_image.Statement.{statement}
@@ -28,12 +28,15 @@ read-byte-requires-3 c κs = search needs
 read-files-requires : tie.Need-read-files-requires
 read-files-requires c κs = search needs
 
-read-end-requires : tie.Need-read-end-requires
-read-end-requires c κs = search needs
-
 returns : tie.Need-returns
 returns c =
-    image-read _ _ (c .before .before .before .before .before .before .before .before .before .before .before .before .read-head .ensures) _ (c .before .before .before .before .before .before .before .before .before .before .before .read-byte .ensures) _ (c .before .before .before .before .before .before .before .before .before .before .read-tree .ensures) _ (c .before .before .before .before .before .before .before .before .levels .ensures .depth) _ (c .before .before .before .before .before .before .read-byte2 .ensures) _ (c .before .before .before .before .before .read-roles .ensures) _ (c .before .before .before .read-byte3 .ensures) _ (c .before .before .read-files .ensures) _ (c .read-end .ensures)
+    let top = c .before .before .before .before .before .before .before .before .before .before .before .read-head .ensures in
+    let count = c .before .before .before .before .before .before .before .before .before .before .read-byte .ensures in
+    let tree = c .before .before .before .before .before .before .before .before .before .read-tree .ensures in
+    let deep = c .before .before .before .before .before .before .before .levels .ensures .depth in
+    let role-count = c .before .before .before .before .before .read-byte2 .ensures in
+    let roles = c .before .before .before .before .read-roles .ensures in
+    image-read _ top count tree deep role-count roles (c .before .before .read-byte3 .ensures) (c .before .read-files .ensures)
 
 pub read-image-spec : {M : Type 1} → statement M
 read-image-spec =
@@ -47,5 +50,4 @@ read-image-spec =
     read-roles-requires
     read-byte-requires-3
     read-files-requires
-    read-end-requires
     returns)

@@ -1,76 +1,77 @@
 -- `image::read_part` meets its contract: an expression that is read is stored, and a refusal stores nothing. Assumes nothing.
-use mathlib.Core.Path.{refl, subst}
+use mathlib.Core.Path.{ap}
 use native.Mathlib.Omega.{arith}
-use Rattle.image.specs.Faults.{Expression}
-use Rattle.image.specs.Reading.{Follows}
-use Rattle.image.proofs.Shelf.{expression-found, kind-as, part-refused, part-never, part-stored}
+use lib.ListN.{length}
+use Rattle.image.proofs.Shelf.{part-led, part-refused, part-found, part-stored}
 use borrow.Author.Needs.{needs}
 use Rattle.image.proofs.read_part.Statement.{statement}
 use Rattle.image.proofs.read_part.Tie as tie
 
-kind-at-requires : tie.Need-kind-at-requires
-kind-at-requires c κs = search needs
+read-byte-requires : tie.Need-read-byte-requires
+read-byte-requires c κs = search needs
 
-read-expression-requires : tie.Need-read-expression-requires
-read-expression-requires c κs = search needs
-
-enum-known-met : tie.Need-enum-known-met
-enum-known-met c = search needs
+enum-known-led : tie.Need-enum-known-led
+enum-known-led c = search needs
 
 enum-told : tie.Need-enum-told
 enum-told c = search needs
 
 returns : tie.Need-returns
-returns c = part-refused _ _ _ _ _ _ _ _ _ (kind-as _ _ _ _ _ (c .before .before .before .kind-at .ensures) (c .before .before .read-expression .ensures)) (c .enum-told .given .1)
+returns c = part-led _ _ _ _ (c .before .before .read-byte .ensures) _ (c .enum-told .given .1)
 
-enum-known-from : tie.Need-enum-known-from
-enum-known-from c = search needs
+read-stated-requires : tie.Need-read-stated-requires
+read-stated-requires c κs =
+    let lead = c .before .before .before in
+    (lead .before .before .before .before .pre .0, lead .read-byte .ensures .within _ (c .before .led .given .1))
+
+enum-known-met : tie.Need-enum-known-met
+enum-known-met c = search needs
 
 enum-told-2 : tie.Need-enum-told-2
 enum-told-2 c = search needs
 
 returns-2 : tie.Need-returns-2
 returns-2 c =
-    let a = c .before .before .before .before .before .before .before .before .before .before in
-    absurd (part-never (a .args .image .now) _ (a .args .file) (a .args .n) (a .args .depth .0) (a .args .k) (a .args .lens .now) (a .args .bytes .now) _ (kind-as _ _ _ _ _ (c .before .before .before .before .before .before .kind-at .ensures) (c .before .before .before .before .before .read-expression .ensures)) (c .enum-told2 .given .1) (c .before .before .before .met .given .1))
+    let stated = c .before .before in
+    let led = stated .before .before in
+    part-refused _ _ _ _ (led .before .before .read-byte .ensures) (led .led .given .1) (stated .read-stated .ensures) _ (c .enum-told2 .given .1)
 
-add-start : tie.Need-add-start
-add-start c =
-    let f = expression-found _ _ _ _ _ _ (c .before .before .before .before .before .before .read-expression .ensures) (c .before .from .given .1) (c .before .before .before .before .met .given .1) in
-    omega (arith, f .start, f .within, c .before .before .before .before .before .before .before .before .before .before .before .good)
-
-sub-lens : tie.Need-sub-lens
-sub-lens c =
-    let f = expression-found _ _ _ _ _ _ (c .before .before .before .before .before .before .read-expression .ensures) (c .before .from .given .1) (c .before .before .before .before .met .given .1) in
+sub-put : tie.Need-sub-put
+sub-put c =
+    let met = c .before .before .before in
+    let stated = met .before .before in
+    let led = stated .before .before in
+    let lead = led .before .before .read-byte .ensures in
+    let f = part-found _ _ _ _ lead (led .led .given .1) (stated .read-stated .ensures) (met .met .given .1) in
     f .start
 
-cast-lens : tie.Need-cast-lens
-cast-lens c =
-    let f = expression-found _ _ _ _ _ _ (c .before .before .before .before .before .before .read-expression .ensures) (c .before .from .given .1) (c .before .before .before .before .met .given .1) in
-    omega (arith, f .in-order .0, f .long)
-
-slice-write-lens : tie.Need-slice-write-lens
-slice-write-lens c = search needs
-
-sub-put-bytes : tie.Need-sub-put-bytes
-sub-put-bytes c =
-    let f = expression-found _ _ _ _ _ _ (c .before .before .before .before .before .before .before .read-expression .ensures) (c .before .before .from .given .1) (c .before .before .before .before .before .met .given .1) in
-    f .start
-
-part-put-bytes-start : tie.Need-part-put-bytes-start
-part-put-bytes-start c =
-    let f = expression-found _ _ _ _ _ _ (c .before .before .before .before .before .before .before .read-expression .ensures) (c .before .before .from .given .1) (c .before .before .before .before .before .met .given .1) in
+part-put-start : tie.Need-part-put-start
+part-put-start c =
+    let met = c .before .before .before in
+    let stated = met .before .before in
+    let led = stated .before .before in
+    let lead = led .before .before .read-byte .ensures in
+    let f = part-found _ _ _ _ lead (led .led .given .1) (stated .read-stated .ensures) (met .met .given .1) in
     omega (arith, f .start, f .within)
 
-part-put-bytes-end : tie.Need-part-put-bytes-end
-part-put-bytes-end c =
-    let f = expression-found _ _ _ _ _ _ (c .before .before .before .before .before .before .before .read-expression .ensures) (c .before .before .from .given .1) (c .before .before .before .before .before .met .given .1) in
+part-put-end : tie.Need-part-put-end
+part-put-end c =
+    let met = c .before .before .before in
+    let stated = met .before .before in
+    let led = stated .before .before in
+    let lead = led .before .before .read-byte .ensures in
+    let f = part-found _ _ _ _ lead (led .led .given .1) (stated .read-stated .ensures) (met .met .given .1) in
     omega (arith, f .start, f .within)
 
-put-bytes-requires : tie.Need-put-bytes-requires
-put-bytes-requires c κs =
-    let f = expression-found _ _ _ _ _ _ (c .before .before .before .before .before .before .before .before .read-expression .ensures) (c .before .before .before .from .given .1) (c .before .before .before .before .before .before .met .given .1) in
-    (f .in-order .0, c .before .before .before .before .before .before .before .before .before .before .before .before .before .pre .2)
+put-requires : tie.Need-put-requires
+put-requires c κs =
+    let met = c .before .before .before .before in
+    let stated = met .before .before in
+    let led = stated .before .before in
+    let lead = led .before .before .read-byte .ensures in
+    let f = part-found _ _ _ _ lead (led .led .given .1) (stated .read-stated .ensures) (met .met .given .1) in
+    let h = led .before .before .before .before .before .before .pre in
+    (h .1, omega (arith, ap length (f .is), f .long, lead .most), h .2)
 
 same-length : tie.Need-same-length
 same-length c = search needs
@@ -80,30 +81,28 @@ same-length-2 c = search needs
 
 returns-3 : tie.Need-returns-3
 returns-3 c =
-    let e = c .before .before .before .before .before .before .before .before .before .met .given .1 in
-    let f = subst (Follows _ (Expression _ _ _) _) e (c .before .before .before .before .before .before .before .before .before .before .before .read-expression .ensures) in
-    part-stored _ _ _ _ _ _ _ _ _ (kind-as _ _ _ _ _ (c .before .before .before .before .before .before .before .before .before .before .before .before .kind-at .ensures) f) _ (c .before .before .before .before .before .before .from .given .1) refl (c .before .before .put-bytes .ensures)
+    let met = c .before .before .before .before .before .before .before .before .before in
+    let stated = met .before .before in
+    let led = stated .before .before in
+    let lead = led .before .before .read-byte .ensures in
+    part-stored _ _ _ _ lead (led .led .given .1) (stated .read-stated .ensures) _ (met .met .given .1) (c .before .before .before .before .put .ensures)
 
 pub read-part-spec : {M : Type 1} → statement M
 read-part-spec =
     tie.close
     (tie.spec
-    kind-at-requires
-    read-expression-requires
-    enum-known-met
+    read-byte-requires
+    enum-known-led
     enum-told
     returns
-    enum-known-from
+    read-stated-requires
+    enum-known-met
     enum-told-2
     returns-2
-    add-start
-    sub-lens
-    cast-lens
-    slice-write-lens
-    sub-put-bytes
-    part-put-bytes-start
-    part-put-bytes-end
-    put-bytes-requires
+    sub-put
+    part-put-start
+    part-put-end
+    put-requires
     same-length
     same-length-2
     returns-3)

@@ -1,8 +1,6 @@
 -- `image::read_role` meets its contract: a shelf of zeros is read into. Assumes nothing.
-use mathlib.Core.Path.{refl}
-use mathlib.Core.Bool.{false}
 use Rattle.policy.specs.State.{rolePlaces}
-use Rattle.image.proofs.Row.{role-read, fine-none}
+use Rattle.image.proofs.Shelf.{stocked-none, role-read}
 use borrow.Author.Needs.{needs}
 use Rattle.image.proofs.read_role.Statement.{statement}
 use Rattle.image.proofs.read_role.Tie as tie
@@ -14,10 +12,10 @@ slice-aggregate-read-shelf-2 : tie.Need-slice-aggregate-read-shelf-2
 slice-aggregate-read-shelf-2 c = search needs
 
 read-shelf-requires : tie.Need-read-shelf-requires
-read-shelf-requires c κs = (c .before .before .before .pre, refl, fine-none false _ _ rolePlaces)
+read-shelf-requires c κs = (c .before .before .before .pre, stocked-none rolePlaces)
 
 returns : tie.Need-returns
-returns c = role-read _ _ _ _ _ (c .before .before .read-shelf .ensures)
+returns c = role-read _ _ (c .before .before .read-shelf .ensures)
 
 pub read-role-spec : {M : Type 1} → statement M
 read-role-spec =

@@ -1,25 +1,24 @@
 -- `image::read_roles` meets its contract: the roles passed are read, and the others are zero. The measure is what is left of them. Assumes nothing.
 use Prim.Native.Nat.{_≤_, _-_}
 use native.Mathlib.Omega.{arith}
-use borrow.Author.Needs.{needs}
-use Rattle.policy.specs.State.{mostRoles, offRole, noRole}
-use Rattle.policy.specs.Fine.{OneIs, roleShelves}
-use Rattle.image.specs.Image.{roleBytes}
-use Rattle.image.specs.Faults.{roleFields}
-use Rattle.image.specs.Reading.{Rows}
-use Rattle.image.proofs.Row.{rows-none, rows-more, rows-all, no-role}
+use borrow.Author.Needs.{zero≤}
+use Rattle.policy.specs.State.{mostRoles, noRole}
+use Rattle.image.specs.Image.{shelf, roleKinds}
+use Rattle.image.specs.Load.{roleOf}
+use Rattle.image.specs.Reading.{RowsRead}
+use Rattle.image.proofs.Rows.{rows-none, rows-more, rows-all}
 use Rattle.image.proofs.read_roles.Statement.{statement}
 use Rattle.image.proofs.read_roles.Tie as tie
 
 abbrev Inv-loop : tie.InvT-loop
 Inv-loop image count n depth roles₀ met₀ i₀ roles met i =
-    (i ≤ count) × Rows offRole roleBytes (λ used. OneIs roleShelves used n (depth .0)) (roleFields n (depth .0)) mostRoles image met₀ i roles met
+    (i ≤ count) × RowsRead roleOf noRole mostRoles (shelf roleKinds (n - 1) (depth .0)) i image met₀ met roles
 
 abbrev μ-loop : tie.MeasureT-loop
 μ-loop image count n depth roles₀ met₀ i₀ roles met i = count - i
 
 loop-holds : tie.Need-loop-holds Inv-loop μ-loop
-loop-holds c = (search needs, rows-none _ _ _ _ _ _ _ noRole (no-role _ _))
+loop-holds c = (zero≤, rows-none _ noRole _ _ _)
 
 read-role-requires : tie.Need-read-role-requires Inv-loop μ-loop
 read-role-requires c κs = c .before .before .before .pre .0
@@ -39,11 +38,10 @@ loop-less c = omega arith
 loop-again : tie.Need-loop-again Inv-loop μ-loop
 loop-again c =
     let w = c .before .before .before .loop .inv in
-    let r = c .before .read-role .ensures in
-    (omega arith, rows-more _ _ _ _ _ _ _ (w .1) (omega (arith, c .before .before .before .before .before .pre .1)) _ _ (r .met) (r .is) (r .stands))
+    (omega arith, rows-more _ _ _ _ _ (w .1) (omega (arith, c .before .before .before .before .before .pre .1)) (c .before .read-role .ensures))
 
 returns : tie.Need-returns Inv-loop μ-loop
-returns c = let w = c .before .loop .inv in rows-all _ _ _ _ _ _ _ (w .1) (omega (arith, w .0))
+returns c = let w = c .before .loop .inv in rows-all _ _ _ _ _ (w .1) (omega (arith, w .0))
 
 pub read-roles-spec : {M : Type 1} → statement M
 read-roles-spec =

@@ -1,8 +1,8 @@
--- `image::read_tree` meets its contract: the parents of the securons passed are read, and the others are zero. The measure is what is left of them. Assumes nothing.
+-- `image::read_tree` meets its contract: the parents of the securons passed are read, the others zero. The measure is what is left of them. Assumes nothing.
 use Prim.Native.Nat.{_<_, _≤_, _-_}
 use native.Mathlib.Omega.{arith}
 use borrow.Author.Needs.{zero≤}
-use Rattle.image.proofs.Parents.{Grows, grows-none, grows-more, grows-all, grows-tree}
+use Rattle.image.proofs.Rows.{Grows, grows-none, grows-more, grows-tree}
 use Rattle.image.proofs.read_tree.Statement.{statement}
 use Rattle.image.proofs.read_tree.Tie as tie
 
@@ -13,7 +13,7 @@ abbrev μ-loop : tie.MeasureT-loop
 μ-loop image n parent₀ met₀ u₀ parent met u = n - u
 
 loop-holds : tie.Need-loop-holds Inv-loop μ-loop
-loop-holds c = (omega arith, omega (arith, c .before .pre), grows-none _ _)
+loop-holds c = (omega arith, omega (arith, c .before .pre), grows-none _)
 
 sub-read-byte : tie.Need-sub-read-byte Inv-loop μ-loop
 sub-read-byte c = omega arith
@@ -22,7 +22,7 @@ read-byte-requires : tie.Need-read-byte-requires Inv-loop μ-loop
 read-byte-requires c κs = zero≤
 
 cast-parent : tie.Need-cast-parent Inv-loop μ-loop
-cast-parent c = omega (arith, c .before .read-byte .ensures .range, c .before .before .before .loop .inv, c .before .before .before .before .before .pre)
+cast-parent c = omega (arith, c .before .read-byte .ensures .most, c .before .before .before .loop .inv, c .before .before .before .before .before .pre)
 
 array-write-parent : tie.Need-array-write-parent Inv-loop μ-loop
 array-write-parent c = omega (arith, c .before .before .before .before .before .pre)
@@ -36,12 +36,14 @@ loop-less c = omega arith
 loop-again : tie.Need-loop-again Inv-loop μ-loop
 loop-again c =
     let w = c .before .before .before .loop .inv in
-    (omega arith, omega arith, grows-more (w .2) (w .0) (omega (arith, c .before .before .before .before .before .pre)) _ (c .before .read-byte .ensures))
+    let room = c .before .before .before .before .before .pre in
+    (omega arith, omega arith, grows-more _ (w .2) (omega (arith, room)) (c .before .read-byte .ensures))
 
 returns : tie.Need-returns Inv-loop μ-loop
 returns c =
     let w = c .before .loop .inv in
-    grows-tree (grows-all (w .2) (omega (arith, w .1))) (c .before .before .before .pre)
+    let range = c .before .before .before .pre in
+    grows-tree _ (w .2) (omega (arith, w .1)) range
 
 pub read-tree-spec : {M : Type 1} → statement M
 read-tree-spec =

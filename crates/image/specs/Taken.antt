@@ -1,21 +1,23 @@
 -- What the policy of an image is: its parents make a tree, and every expression of a role or a file is in order for its place. Assumes nothing.
 use mathlib.Core.Path.{_≡_, refl, sym, ap, _∙_, subst}
-use mathlib.Core.List.{List, [], _∷_, _++_}
+use mathlib.Core.List.{List, [], _∷_}
 use Prim.Native.Nat.{ℕ, zero, suc, _+_, _-_, _<_, _≤_}
+use native.Mathlib.Decide.{decLt}
 use native.Mathlib.Omega.{arith}
-use lib.ListN.{length, getD, replicate, length-append, length-replicate, List·getD-append}
-use lib.Seq.{getD-append-add}
-use Rattle.securon.specs.Sets.{securons}
+use lib.ListN.{length, getD, List·getD-eq-default}
+use Rattle.securon.specs.Sets.{setRoom}
+use Rattle.tree.specs.Tree.{mostSecurons}
 use Rattle.tree.specs.Depth.{depthOf}
 use Rattle.expression.specs.declared.Kind.{Kind}
 use Rattle.expression.specs.declared.Kind.the-variants.{Privilege}
 use Rattle.expression.specs.Bytes.{longest, Right, InOrder}
 use Rattle.policy.specs.State.{mostRoles, mostFiles}
 use Rattle.policy.specs.Fine.{TreeFine}
-use Rattle.policy.specs.Fresh.{zero-shelf}
 use Rattle.fields.specs.Parts.{below, between, byte}
 use Rattle.fields.specs.Takings.{byte-is, times-takes, made-takes}
-use Rattle.described.specs.Image.{Expressions, Policy, Layout, version1, mostInVersion1, noCount, noParent, noExpression, expressionBytes, expression, shelf, counted, parentBytes, treeOf, withFiles, withRoles, body, policyImage, image}
+use Rattle.image.specs.Image.{Expressions, Policy, Layout, version1, mostInVersion1, noCount, noParent, noExpression}
+use Rattle.image.specs.Image.{expressionBytes, expression, shelf, counted, parentBytes, filled, treeOf, withFiles, withRoles, body, policyImage, image}
+use Rattle.image.specs.Filled.{length-filled, filled-at, filled-past}
 
 -- expressions in order for these kinds, place by place, over n securons and the depth d
 pub record InPlace (kinds : List Kind) (n d : ℕ) (xs : Expressions) : Type 0 where
@@ -70,36 +72,22 @@ parents-are k x ps t =
     (w .0, λ i h. let (y, u) = w .1 i h 0 in byte-is (below (i + 1)) noParent y (getD ps i 0) u .1)
 
 -- such parents make a tree, where there is room for them
-module _ (ps : List ℕ) (room : suc (length ps) ≤ securons) (smaller : (i : ℕ) → i < length ps → getD ps i 0 < i + 1) where
-  abbrev past : List ℕ
-  past = replicate (securons - suc (length ps)) 0
+pub tree-fine : (ps : List ℕ) → suc (length ps) ≤ mostSecurons → ((i : ℕ) → i < length ps → getD ps i 0 < i + 1) → TreeFine (treeOf ps)
+unfolding treeOf
+tree-fine ps room smaller = record {
+  room = length-filled setRoom 0 (0 ∷ ps) room;
+  is-tree = record { count = (omega arith, room); smaller = less };
+  root = refl;
+  past = λ u h. beyond u h (decLt u setRoom);
+}
+  where
+    less : (u : ℕ) → 0 < u → u < suc (length ps) → getD (filled setRoom 0 (0 ∷ ps)) u 0 < u
+    less zero p h = absurd (omega arith)
+    less (suc j) p h = omega (arith, filled-at setRoom 0 (0 ∷ ps) (suc j) 0 h, smaller j (omega arith))
 
-  at-parent : (j : ℕ) → j < length ps → getD (ps ++ past) j 0 ≡ getD ps j 0
-  at-parent j h = List·getD-append ps past 0 j h
-
-  at-past : (j : ℕ) → length ps ≤ j → getD (ps ++ past) j 0 ≡ 0
-  at-past j h =
-      let e : j ≡ length ps + (j - length ps) = omega arith in
-      ap (λ (i : ℕ). getD (ps ++ past) i 0) e
-      ∙ getD-append-add ps past (j - length ps) 0
-      ∙ zero-shelf (securons - suc (length ps)) .lengths (j - length ps)
-
-  pub tree-fine : TreeFine (treeOf ps)
-  unfolding treeOf
-  tree-fine = record {
-    room = omega (arith, room, length-append ps past, length-replicate {A = ℕ} (securons - suc (length ps)) 0);
-    is-tree = record { count = (omega arith, room); smaller = less };
-    root = refl;
-    past = beyond;
-  }
-    where
-      less : (u : ℕ) → 0 < u → u < suc (length ps) → getD (0 ∷ (ps ++ past)) u 0 < u
-      less zero p h = absurd (omega arith)
-      less (suc j) p h = omega (arith, at-parent j (omega arith), smaller j (omega arith))
-
-      beyond : (u : ℕ) → suc (length ps) ≤ u → getD (0 ∷ (ps ++ past)) u 0 ≡ 0
-      beyond zero h = absurd (omega arith)
-      beyond (suc j) h = at-past j (omega arith)
+    beyond : (u : ℕ) → suc (length ps) ≤ u → Dec (u < setRoom) → getD (filled setRoom 0 (0 ∷ ps)) u 0 ≡ 0
+    beyond u h (yes l) = filled-past setRoom 0 (0 ∷ ps) u 0 h l
+    beyond u h (no l) = List·getD-eq-default (filled setRoom 0 (0 ∷ ps)) 0 {n = u} (omega (arith, length-filled setRoom 0 (0 ∷ ps) room))
 
 -- the count of securons is one more than their parents
 pub tree-count : (ps : List ℕ) → treeOf ps .n ≡ suc (length ps)

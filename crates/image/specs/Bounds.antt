@@ -14,11 +14,14 @@ use Rattle.policy.specs.State.{mostRoles, mostFiles, rolePlaces, filePlaces}
 use Rattle.fields.specs.Format.{Refusal, Format}
 use Rattle.fields.specs.Means.{Judging, Test}
 use Rattle.fields.specs.Combine.{give, _>>=_, _>>_, times}
-use Rattle.fields.specs.Parts.{just, below, between, stretch, byByte, first, byte, firstTwo, word}
-use Rattle.fields.specs.Bounds.{NumbersUnder, under-then, under-times, under-stretch, under-value, under-alone, AtMost, most-then, most-times, most-stretch, most-value}
+use Rattle.fields.specs.Parts.{just, below, between, byByte, first, byte, firstTwo, word}
+use Rattle.fields.specs.Bounds.{NumbersUnder, under-then, under-times, under-stretch, under-value, under-alone}
+use Rattle.fields.specs.Bounds.{AtMost, most-then, most-times, most-stretch, most-value}
 use Rattle.fields.specs.Document.{alone}
 use Rattle.fields.specs.Takings.{byte-is, made-takes}
-use Rattle.described.specs.Image.{Expressions, Policy, Layout, Versions, version1, mostInVersion1, longestImage, roleKinds, fileKinds, markS, markP, markT, noMark, noVersion, noCount, noParent, noExpression, expression, shelf, counted, parentBytes, treeOf, withFiles, withRoles, body, head, policyImage, image}
+use Rattle.image.specs.Image.{Expressions, Policy, Layout, Versions, version1, mostInVersion1, longestImage, roleKinds, fileKinds}
+use Rattle.image.specs.Image.{markS, markP, markT, noMark, noVersion, noCount, noParent, noExpression}
+use Rattle.image.specs.Image.{stated, expression, shelf, counted, parentBytes, treeOf, withFiles, withRoles, body, head, policyImage, image}
 
 -- one byte, whatever is tested
 abbrev digit : ℕ
@@ -31,23 +34,23 @@ byte-most : (t : Test ℕ) (refusal : Refusal) → AtMost 1 (byte t refusal)
 byte-most t refusal = most-value 1 first t refusal
 
 module _ (parents d : ℕ) where
-  -- the stated bytes of an expression
-  abbrev stated : Kind → (m : ℕ) → Judging m
-  stated kind m = byByte m (Right kind (suc parents) d) (judged kind (suc parents) d (omega arith))
+  -- how the stated bytes of an expression are judged
+  abbrev judging : Kind → (m : ℕ) → Judging m
+  judging kind m = byByte m (Right kind (suc parents) d) (judged kind (suc parents) d (omega arith))
 
   expression-under : (kind : Kind) → NumbersUnder digit (expression kind parents d)
   unfolding expression
   expression-under kind =
-      under-then (byte (between 0 longest) noExpression) (λ m. stretch m (stated kind m) noExpression) digit
+      under-then (byte (between 0 longest) noExpression) (stated kind parents d) digit
       (byte-under (between 0 longest) noExpression (omega arith))
-      (λ m. under-stretch m (stated kind m) noExpression digit (omega arith) (omega arith))
+      (λ m. under-stretch m (judging kind m) noExpression digit (omega arith) (omega arith))
 
   expression-most : (kind : Kind) → AtMost (1 + longest) (expression kind parents d)
   unfolding expression
   expression-most kind =
-      most-then (byte (between 0 longest) noExpression) (λ m. stretch m (stated kind m) noExpression) 1 longest
+      most-then (byte (between 0 longest) noExpression) (stated kind parents d) 1 longest
       (byte-most (between 0 longest) noExpression)
-      (λ m (y, t) x v u. omega (arith, most-stretch m (stated kind m) noExpression x v u, byte-is (between 0 longest) noExpression y m t .1 .1))
+      (λ m (y, t) x v u. omega (arith, most-stretch m (judging kind m) noExpression x v u, byte-is (between 0 longest) noExpression y m t .1 .1))
 
   shelf-under : (kinds : List Kind) → NumbersUnder digit (shelf kinds parents d)
   unfolding shelf

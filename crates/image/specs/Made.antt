@@ -2,30 +2,30 @@
 use mathlib.Core.Path.{_≡_, refl, sym, ap, ap₂, _∙_, subst, subst₂}
 use mathlib.Core.Bool.{Bool, true, false}
 use mathlib.Core.List.{List, [], _∷_, _++_, map, flatMap, append-assoc}
-use Prim.Native.Nat.{ℕ, zero, suc, _+_, _*_, _-_, _<_, _≤_}
+use Prim.Native.Nat.{ℕ, zero, suc, _+_, _*_, _-_, _<_}
 use native.Mathlib.Decide.{decLt}
 use native.Mathlib.Omega.{arith}
 use borrow.Author.Tests.{ltb-true, ltb-false}
 use lib.Dec.{ltb}
 use lib.ListN.{length, take, drop, getD, replicate, length-append, length-map, length-replicate, getD-replicate, List·getD-append}
-use lib.Seq.{take-at, drop-append-add, drop-append-seam, drop-drop, getD-at, getD-append-add}
+use lib.Seq.{take-at, drop-append-add, drop-append-seam, drop-drop, getD-at}
 use Rattle.tree.specs.Depth.{depthOf, depth-is}
 use Rattle.expression.specs.declared.Kind.{Kind}
 use Rattle.expression.specs.declared.Kind.the-variants.{Privilege}
 use Rattle.expression.specs.Bytes.{longest, InOrder}
-use Rattle.policy.specs.State.{mostRoles, mostFiles, slotCount, rolePlaces, filePlaces, freeSlot, storedAt, roomPast, padded, noRole, noFile}
-use Rattle.policy.specs.WellFormed.{HasPlaces, AllZero, ZeroShelf, WellFormed}
-use Rattle.policy.specs.Fine.{kindAt, ShelfFine, SlotIs, SlotsAre, Shelving, roleShelves, fileShelves, OneIs, AllAre}
+use Rattle.shelf.specs.Shelf.{HasPlaces, AllZero, ZeroShelf, storedAt, roomPast, padded}
+use Rattle.shelf.specs.Fine.{kindAt, ShelfFine}
+use Rattle.shelf.specs.Laws.{length-padded}
+use Rattle.policy.specs.State.{mostRoles, mostFiles, slotCount, rolePlaces, filePlaces, Free, slotWith, noRole, noFile}
+use Rattle.policy.specs.WellFormed.{WellFormed}
+use Rattle.policy.specs.Fine.{SlotIs, SlotsAre, Shelving, roleShelves, fileShelves, OneIs, AllAre, roleUsed, fileUsed}
 use Rattle.policy.specs.Fresh.{zero-places, zero-shelf}
-use Rattle.policy.specs.Shelves.{length-padded}
 use Rattle.policy.specs.Whole.{free-held, fine-well-formed}
-use Rattle.described.specs.Image.{Expressions, Policy, version1, each, roleKinds, fileKinds, image}
-use Rattle.described.specs.Load.{roleOf, fileOf, filled, stateOf}
-use Rattle.described.specs.Taken.{InPlace, AllInPlace, PolicyFine, image-fine}
-
--- every expression has at most 48 bytes
-abbrev pub Short : Expressions → Type 0
-Short xs = (k : ℕ) → k < length xs → length (getD xs k []) ≤ longest
+use Rattle.image.specs.Image.{Expressions, Policy, version1, filled, each, roleKinds, fileKinds, image}
+use Rattle.image.specs.Load.{roleOf, fileOf, stateOf}
+use Rattle.image.specs.Reading.{Short, kindsOf}
+use Rattle.image.specs.Filled.{length-filled, filled-at, filled-past}
+use Rattle.image.specs.Taken.{InPlace, AllInPlace, PolicyFine, image-fine}
 
 -- so many bytes has the room of a shelf
 pub room-length : (xs : Expressions) → Short xs → length (flatMap padded xs) ≡ longest * length xs
@@ -88,7 +88,7 @@ module _ (xs : Expressions) (short : Short xs) (k : ℕ) (h : k < length xs) whe
       ap (λ (l : List ℕ). getD l i 0) e ∙ zero-shelf (longest - length x) .lengths i
 
 -- place by place, these kinds are those of a shelf
-abbrev Kinds : Bool → List Kind → Type 0
+abbrev pub Kinds : Bool → List Kind → Type 0
 Kinds file kinds = (k : ℕ) → k < length kinds → getD kinds k Privilege ≡ kindAt file k
 
 each-length : {A : Type 0} (n : ℕ) (f : ℕ → A) → length (each n (λ i. f i ∷ [])) ≡ n
@@ -110,6 +110,10 @@ role-kinds k h = each-at rolePlaces (kindAt false) Privilege k (omega arith)
 
 file-kinds : Kinds true fileKinds
 file-kinds k h = each-at filePlaces (kindAt true) Privilege k (omega arith)
+
+pub kinds-are : (file : Bool) → Kinds file (kindsOf file)
+kinds-are true = file-kinds
+kinds-are false = role-kinds
 
 -- a shelf of expressions in order for their places is fine
 module _ (file : Bool) (kinds : List Kind) (are : Kinds file kinds) (n d : ℕ) (xs : Expressions) (w : InPlace kinds n d xs) where
@@ -143,35 +147,21 @@ module _ {X : Type 0} (s : Shelving X) (make : Expressions → X) (none : X)
     all = filled (s .most) none (map make rows)
 
     used : (i : ℕ) → i < length rows → getD all i (s .off) ≡ make (getD rows i [])
-    used i h =
-        List·getD-append (map make rows) (replicate (s .most - length (map make rows)) none) (s .off) i (omega (arith, length-map rows make))
-        ∙ map-at make rows i [] (s .off) h
-
-    unused : (i : ℕ) → length rows ≤ i → i < s .most → getD all i (s .off) ≡ none
-    unused i h m =
-        let l = length-map rows make in
-        let e : i ≡ length (map make rows) + (i - length (map make rows)) = omega arith in
-        ap (λ (j : ℕ). getD all j (s .off)) e
-        ∙ getD-append-add (map make rows) (replicate (s .most - length (map make rows)) none) (i - length (map make rows)) (s .off)
-        ∙ getD-replicate (s .most - length (map make rows)) (i - length (map make rows)) none (s .off) (omega arith)
+    used i h = filled-at (s .most) none (map make rows) i (s .off) (omega (arith, length-map rows make)) ∙ map-at make rows i [] (s .off) h
 
     one-used : (b : Bool) (xs : Expressions) → InPlace kinds n d xs → (b ≡ false → ⊥) → OneIs s b n d (make xs)
     one-used b xs v not-zero = record {
       room = subst₂ (HasPlaces (s .places)) (sym (lens-is xs)) (sym (bytes-is xs))
           (subst (λ (i : ℕ). HasPlaces i (map length xs) (flatMap padded xs)) long (made-places (s .file) kinds are n d xs v));
-      fine = λ _. subst₂ (ShelfFine (s .file) n d) (sym (lens-is xs)) (sym (bytes-is xs)) (made-fine (s .file) kinds are n d xs v);
-      zero = λ e. absurd (not-zero e);
+      is = record {
+        fine = λ _. subst₂ (ShelfFine (s .file) n d) (sym (lens-is xs)) (sym (bytes-is xs)) (made-fine (s .file) kinds are n d xs v);
+        zero = λ e. absurd (not-zero e);
+      };
     }
 
-    pub all-made : AllAre s (length rows) n d all
+    pub all-made : AllAre s (λ i. ltb i (length rows)) n d all
     all-made = record {
-      room = omega (
-        arith,
-        w .few,
-        length-map rows make,
-        length-append (map make rows) (replicate (s .most - length (map make rows)) none),
-        length-replicate (s .most - length (map make rows)) none,
-      );
+      room = length-filled (s .most) none (map make rows) (omega (arith, w .few, length-map rows make));
       each = λ i h. go i h (decLt i (length rows));
     }
       where
@@ -179,17 +169,18 @@ module _ {X : Type 0} (s : Shelving X) (make : Expressions → X) (none : X)
         go i h (yes l) =
             let one = one-used (ltb i (length rows)) (getD rows i []) (w .each i l) (λ e. omega (arith, ltb-false i (length rows) e)) in
             subst (OneIs s (ltb i (length rows)) n d) (sym (used i l)) one
-        go i h (no l) = subst (OneIs s (ltb i (length rows)) n d) (sym (unused i (omega arith) h)) (record {
-          room = none-places;
-          fine = λ e. absurd (omega (arith, ltb-true i (length rows) e));
-          zero = λ _. none-zero;
-        })
+        go i h (no l) =
+            let past = filled-past (s .most) none (map make rows) i (s .off) (omega (arith, length-map rows make)) h in
+            subst (OneIs s (ltb i (length rows)) n d) (sym past) (record {
+              room = none-places;
+              is = record { fine = λ e. absurd (omega (arith, ltb-true i (length rows) e)); zero = λ _. none-zero };
+            })
 
 -- no slot holds a role
-free-slots : (count : ℕ) → SlotsAre count (replicate slotCount freeSlot)
+free-slots : (count : ℕ) → SlotsAre count (replicate slotCount (slotWith Free))
 free-slots count = record {
-  room = length-replicate slotCount freeSlot;
-  each = λ i h. subst (SlotIs count) (sym (getD-replicate slotCount i freeSlot freeSlot h)) (λ r e. absurd (free-held e));
+  room = length-replicate slotCount (slotWith Free);
+  each = λ i h. subst (SlotIs count) (sym (getD-replicate slotCount i (slotWith Free) 0 h)) (λ r e. absurd (free-held e));
 }
 
 role-lens : (xs : Expressions) → roleOf xs .lens ≡ map length xs
@@ -216,12 +207,12 @@ module _ (p : Policy) (f : PolicyFine version1 p) where
   abbrev d : ℕ
   d = depthOf (p .tree)
 
-  roles-made : AllAre roleShelves (length (p .roles)) n d (filled mostRoles noRole (map roleOf (p .roles)))
+  roles-made : AllAre roleShelves (roleUsed (stateOf p)) n d (filled mostRoles noRole (map roleOf (p .roles)))
   roles-made =
       let place = zero-places rolePlaces in
       all-made roleShelves roleOf noRole role-lens role-room place (zero-shelf rolePlaces) roleKinds role-kinds refl n d (p .roles) (f .roles)
 
-  files-made : AllAre fileShelves (length (p .files)) n d (filled mostFiles noFile (map fileOf (p .files)))
+  files-made : AllAre fileShelves (fileUsed (stateOf p)) n d (filled mostFiles noFile (map fileOf (p .files)))
   files-made =
       let place = zero-places filePlaces in
       all-made fileShelves fileOf noFile file-lens file-room place (zero-shelf filePlaces) fileKinds file-kinds refl n d (p .files) (f .files)

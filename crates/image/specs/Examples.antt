@@ -12,8 +12,9 @@ use Rattle.fields.specs.Parts.{just, between, byte, word}
 use Rattle.fields.specs.Fronts.{cons-nil}
 use Rattle.fields.specs.Takings.{takes-byte}
 use Rattle.fields.specs.Loads.{cut-refused, over-refused}
-use Rattle.described.specs.Image.{Expressions, Policy, markS, markP, markT, noMark, noVersion, noCount, version1, inUse, image, shelf, counted, parentBytes, treeOf, withFiles, withRoles, body, head, policyImage}
-use Rattle.described.specs.Load.{stateOf}
+use Rattle.image.specs.Image.{Expressions, Policy, markS, markP, markT, noMark, noVersion, noCount, version1, inUse, image}
+use Rattle.image.specs.Image.{shelf, counted, parentBytes, treeOf, withFiles, withRoles, body, head, policyImage}
+use Rattle.image.specs.Load.{stateOf}
 
 -- 53 50 54 01 00 01 00 00
 abbrev smallest : List ℕ
