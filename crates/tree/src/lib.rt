@@ -11,6 +11,7 @@ ghost use Rattle.tree.specs.Tree.{Reaches, Related, Climbs, IsTree, Leve
 pub const MOST: usize = 64;
 
 // n securons; of each the parent's number.
+#[repr(C)]
 pub struct Tree {
     pub n: usize,
     pub parent: [u8; ROOM],
