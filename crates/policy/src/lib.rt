@@ -149,7 +149,10 @@ fn role_is(r: Role, used: bool, n: usize, depth: Level) -> bool
     requires { ⌜ 0 < n ⌝ }
     ensures { λ x. ⌜ (x ≡ true) ↔ OneIs roleShelves used n (depth .0) r ⌝ }
 {
-    shelf::used_or_zero(used, false, n, depth, &r.lens, &r.bytes)
+    if used {
+        return shelf::fine(false, n, depth, &r.lens, &r.bytes);
+    }
+    shelf::zero(&r.lens, &r.bytes)
 }
 
 // One file: a file that is there is a shelf with protection expressions at T1 and T2, one that is not is zero.
@@ -157,7 +160,10 @@ fn file_is(f: File, used: bool, n: usize, depth: Level) -> bool
     requires { ⌜ 0 < n ⌝ }
     ensures { λ x. ⌜ (x ≡ true) ↔ OneIs fileShelves used n (depth .0) f ⌝ }
 {
-    shelf::used_or_zero(used, true, n, depth, &f.lens, &f.bytes)
+    if used {
+        return shelf::fine(true, n, depth, &f.lens, &f.bytes);
+    }
+    shelf::zero(&f.lens, &f.bytes)
 }
 
 // A number below `most`: the one that is asked for, where it is one, else 0.

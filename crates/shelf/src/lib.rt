@@ -9,17 +9,17 @@ ghost use Prim.Native.Nat.{_+_, _*_, _<_, _≤_};
 ghost use lib.ListN.{length, getD};
 ghost use Rattle.expression.specs.Bytes.{longest};
 ghost use Rattle.shelf.specs.Shelf.{storedAt, putBytes, PutAt, AllZero, ZeroShelf};
-ghost use Rattle.shelf.specs.Fine.{kindAt, PlaceFine, ShelfFine, UsedOrZero};
+ghost use Rattle.shelf.specs.Fine.{kindAt, PlaceFine, ShelfFine};
 
 // Whether every byte is zero. A flag and no early return, so that the loop can be vectorised.
 pub fn all_zero(s: &[u8]) -> bool
     ensures { λ r. ⌜ (r ≡ true) ↔ AllZero (now (s .entry)) ⌝ }
 {
-    let mut zero = true;
+    let mut none = true;
     for i in 0..s.len() {
-        zero = zero & (s[i] == 0);
+        none = none & (s[i] == 0);
     }
-    zero
+    none
 }
 
 // A byte as a number that counts.
@@ -58,12 +58,12 @@ fn place_fine<'a>(
     let at = LONGEST * k;
     let end = at + m;
     let next = at + LONGEST;
-    let fine = order::in_order(&bytes[at..end], kind_at(file, k), n, depth);
-    fine & all_zero(&bytes[end..next])
+    let right = order::in_order(&bytes[at..end], kind_at(file, k), n, depth);
+    right & all_zero(&bytes[end..next])
 }
 
 // Every place.
-fn shelf_fine<'a>(file: bool, n: usize, depth: Level, lens: &'a [u8], bytes: &'a [u8]) -> bool
+pub fn fine<'a>(file: bool, n: usize, depth: Level, lens: &'a [u8], bytes: &'a [u8]) -> bool
     requires { ⌜ (0 < n) × (length (now bytes) ≡ longest * length (now lens)) ⌝ }
     ensures { λ r. ⌜ (r ≡ true) ↔ ShelfFine file n (depth .0) (now (lens .entry)) (now (bytes .entry)) ⌝ }
 {
@@ -75,28 +75,10 @@ fn shelf_fine<'a>(file: bool, n: usize, depth: Level, lens: &'a [u8], bytes: &'a
 }
 
 // Whether all of a shelf is zero.
-fn shelf_zero<'a>(lens: &'a [u8], bytes: &'a [u8]) -> bool
+pub fn zero<'a>(lens: &'a [u8], bytes: &'a [u8]) -> bool
     ensures { λ r. ⌜ (r ≡ true) ↔ ZeroShelf (now (lens .entry)) (now (bytes .entry)) ⌝ }
 {
     all_zero(lens) & all_zero(bytes)
-}
-
-// One shelf: one that is used is fine, one that is not is zero.
-pub fn used_or_zero<'a>(
-    used: bool,
-    file: bool,
-    n: usize,
-    depth: Level,
-    lens: &'a [u8],
-    bytes: &'a [u8],
-) -> bool
-    requires { ⌜ (0 < n) × (length (now bytes) ≡ longest * length (now lens)) ⌝ }
-    ensures { λ r. ⌜ (r ≡ true) ↔ UsedOrZero used file n (depth .0) (now (lens .entry)) (now (bytes .entry)) ⌝ }
-{
-    if used {
-        return shelf_fine(file, n, depth, lens, bytes);
-    }
-    shelf_zero(lens, bytes)
 }
 
 // The expression at place k: a part of the bytes.

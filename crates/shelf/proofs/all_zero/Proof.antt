@@ -18,8 +18,8 @@ abbrev μ-loop : tie.MeasureT-loop
 loop-holds : tie.Need-loop-holds Inv-loop μ-loop
 loop-holds c = (search needs, search needs, flag-none _)
 
-shared-slice-read-zero : tie.Need-shared-slice-read-zero Inv-loop μ-loop
-shared-slice-read-zero c = omega arith
+shared-slice-read-none : tie.Need-shared-slice-read-none Inv-loop μ-loop
+shared-slice-read-none c = omega arith
 
 add-i : tie.Need-add-i Inv-loop μ-loop
 add-i c = omega arith
@@ -36,4 +36,4 @@ returns c = flag-all (c .before .loop .inv .2) (λ u h. List·getD-eq-default (c
 pub all-zero-spec : {M : Type 1} → statement M
 all-zero-spec =
     tie.close
-    (tie.spec Inv-loop μ-loop loop-holds shared-slice-read-zero add-i loop-less loop-again returns)
+    (tie.spec Inv-loop μ-loop loop-holds shared-slice-read-none add-i loop-less loop-again returns)

@@ -1,8 +1,8 @@
--- `shelf::shelf_zero` meets its contract: its lengths and its bytes are tested for zero. Assumes nothing.
+-- `shelf::zero` meets its contract: its lengths and its bytes are tested for zero. Assumes nothing.
 use Rattle.logic.specs.Iff.{and-iff, iff-trans}
 use borrow.Author.Needs.{needs}
-use Rattle.shelf.proofs.shelf_zero.Statement.{statement}
-use Rattle.shelf.proofs.shelf_zero.Tie as tie
+use Rattle.shelf.proofs.zero.Statement.{statement}
+use Rattle.shelf.proofs.zero.Tie as tie
 
 all-zero-requires : tie.Need-all-zero-requires
 all-zero-requires c κs = search needs
@@ -15,5 +15,5 @@ returns c =
     iff-trans (and-iff _ _ (c .before .all-zero .ensures) (c .all-zero2 .ensures))
     ((λ w. record { lengths = w .0; room = w .1 }), λ w. (w .lengths, w .room))
 
-pub shelf-zero-spec : {M : Type 1} → statement M
-shelf-zero-spec = tie.close (tie.spec all-zero-requires all-zero-requires-2 returns)
+pub zero-spec : {M : Type 1} → statement M
+zero-spec = tie.close (tie.spec all-zero-requires all-zero-requires-2 returns)

@@ -1,4 +1,4 @@
--- `shelf::shelf_fine` meets its contract: the flag says of every place passed that it is fine. The measure is what is left of the places. Assumes nothing.
+-- `shelf::fine` meets its contract: the flag says of every place passed that it is fine. The measure is what is left of the places. Assumes nothing.
 use mathlib.Core.Path.{_≡_}
 use Prim.Native.Nat.{ℕ, _≤_, _-_}
 use native.Mathlib.Omega.{arith}
@@ -6,8 +6,8 @@ use borrow.Author.Needs.{needs}
 use lib.ListN.{length}
 use Rattle.logic.specs.Every.{Flag, flag-none, flag-and, flag-end}
 use Rattle.shelf.specs.Fine.{kindAt, PlaceFine}
-use Rattle.shelf.proofs.shelf_fine.Statement.{statement}
-use Rattle.shelf.proofs.shelf_fine.Tie as tie
+use Rattle.shelf.proofs.fine.Statement.{statement}
+use Rattle.shelf.proofs.fine.Tie as tie
 
 abbrev Inv-loop : tie.InvT-loop
 Inv-loop file n depth lens bytes ok₀ k₀ k-end ok k =
@@ -34,7 +34,7 @@ loop-again c = (search needs, omega arith, flag-and (c .before .before .loop .in
 returns : tie.Need-returns Inv-loop μ-loop
 returns c = flag-end (c .before .loop .inv .2) (omega arith)
 
-pub shelf-fine-spec : {M : Type 1} → statement M
-shelf-fine-spec =
+pub fine-spec : {M : Type 1} → statement M
+fine-spec =
     tie.close
     (tie.spec Inv-loop μ-loop loop-holds place-fine-requires add-k loop-less loop-again returns)
