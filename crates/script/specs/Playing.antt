@@ -1,22 +1,52 @@
 -- What the functions that play a record promise. Definitions only.
 use mathlib.Core.Path.{_≡_}
-use mathlib.Core.Bool.{Bool, true, false}
+use mathlib.Core.Bool.{Bool, true, false, cond}
 use mathlib.Core.List.{List, [], _++_}
-use Prim.Native.Nat.{ℕ, _<_, _≤_}
-use lib.ListN.{length, drop}
+use Prim.Native.Nat.{ℕ, _+_, _<_, _≤_}
+use lib.Dec.{eqb}
+use lib.ListN.{length, getD, take, drop}
 use Rattle.answer.specs.declared.Answer.{Answer}
 use Rattle.answer.specs.Numbers.{done}
 use Rattle.answer.specs.Answers.{Is}
 use Rattle.policy.specs.declared.State.{State}
-use Rattle.machine.specs.Machine.{Request, Step}
+use Rattle.machine.specs.Machine.{Request, change, bypass, Step}
 use Rattle.lines.specs.Lines.{Line}
 use Rattle.gate.specs.Effects.{Tells}
 use Rattle.script.specs.declared.Told.{Told}
 use Rattle.script.specs.declared.Played.{Played}
 use Rattle.script.specs.declared.Next.{Next}
 use Rattle.script.specs.declared.Next.the-variants.{Ended, Cut, Whole}
-use Rattle.script.specs.Script.{Reads, cutLine, Plays, Filled}
-use Rattle.script.specs.Records.{NoRecord, secondAt, endAt, Stored}
+use Rattle.script.specs.Script.{IsRecord, cutLine, Plays, Filled}
+
+-- no record stands at the front
+abbrev pub NoRecord : List ℕ → Type 0
+NoRecord bs = (q : Request) (rest : List ℕ) → IsRecord bs q rest → ⊥
+
+-- 04 or 05 slot file mode, length byte and bytes, twice: the two expressions, the place of the second length byte, and the end
+abbrev pub secondAt : List ℕ → ℕ
+secondAt bs = 5 + getD bs 4 0
+
+abbrev pub endAt : List ℕ → ℕ
+endAt bs = secondAt bs + 1 + getD bs (secondAt bs) 0
+
+abbrev pub firstOf : List ℕ → List ℕ
+firstOf bs = take (getD bs 4 0) (drop 5 bs)
+
+abbrev pub secondOf : List ℕ → List ℕ
+secondOf bs = take (getD bs (secondAt bs) 0) (drop (secondAt bs + 1) bs)
+
+-- the request that it is: 04 change, 05 bypass
+abbrev pub storeOf : ℕ → ℕ → ℕ → ℕ → List ℕ → List ℕ → Request
+storeOf code slot file mode x y = cond (eqb code 4) (change slot file mode x y) (bypass slot file mode x y)
+
+abbrev pub storeIn : ℕ → List ℕ → Request
+storeIn code bs = storeOf code (getD bs 1 0) (getD bs 2 0) (getD bs 3 0) (firstOf bs) (secondOf bs)
+
+-- a record that is there has all its bytes
+pub record Stored (bs : List ℕ) : Type 0 where
+  pub first : 5 ≤ length bs
+  pub second : secondAt bs < length bs
+  pub all : endAt bs ≤ length bs
 
 -- where the two expressions of a record 04 or 05 stand, or that they are not all there
 pub record Bounded (bs : List ℕ) (whole : Bool) (mid end : ℕ) : Type 0 where
@@ -35,7 +65,7 @@ pub record NoCall (s : State) (a : Answer) (t : State) : Type 0 where
 abbrev pub NextIs : State → List ℕ → Answer → State → Next → Type 0
 NextIs s bs a t Ended = (bs ≡ []) × NoCall s a t
 NextIs s bs a t Cut = (bs ≡ [] → ⊥) × NoRecord bs × NoCall s a t
-NextIs s bs a t (Whole n) = (q : Request) × Reads bs q (drop n bs) × Step s q a t × (0 < n) × (n ≤ length bs)
+NextIs s bs a t (Whole n) = (q : Request) × IsRecord bs q (drop n bs) × Step s q a t × (0 < n) × (n ≤ length bs)
 
 -- how many bytes the next record has
 abbrev pub bytesOf : Next → ℕ
