@@ -11,6 +11,10 @@ use policy::SLOTS;
 use policy::State;
 use securon::ROOM;
 use tree::Tree;
+ghost use Prim.Native.Nat.{_<_, _≤_};
+ghost use lib.ListN.{length};
+ghost use Rattle.expression.specs.Bytes.{longest};
+ghost use Rattle.policy.specs.State.{rolePlaces, filePlaces};
 
 // The tree of 01's examples, two roles and two files whose expressions are all empty; slot 0 holds role 0.
 pub(crate) fn base() -> State {
@@ -30,6 +34,28 @@ pub(crate) fn base() -> State {
     after(s, gate::begin(s, 0, 0))
 }
 
+// A role with a length and bytes at a place, and zero past them.
+fn role_with(old: Role, place: usize, m: u8, b: &[u8]) -> Role
+    requires { ⌜ (place < rolePlaces) × (length (now b) ≤ longest) ⌝ }
+{
+    let mut lens = old.lens;
+    let mut bytes = old.bytes;
+    shelf::put(&mut lens, &mut bytes, place, b);
+    lens[place] = m;
+    Role { lens, bytes }
+}
+
+// A file with them.
+fn file_with(old: File, place: usize, m: u8, b: &[u8]) -> File
+    requires { ⌜ (place < filePlaces) × (length (now b) ≤ longest) ⌝ }
+{
+    let mut lens = old.lens;
+    let mut bytes = old.bytes;
+    shelf::put(&mut lens, &mut bytes, place, b);
+    lens[place] = m;
+    File { lens, bytes }
+}
+
 // A length and bytes at a place of a role, and zero past them: in order or not, as many as the length says or not.
 pub(crate) fn role(mut s: State, role: usize, place: usize, m: u8, b: &[u8]) -> State {
     if ROLES <= role {
@@ -43,11 +69,7 @@ pub(crate) fn role(mut s: State, role: usize, place: usize, m: u8, b: &[u8]) -> 
     }
     let roles = s.roles;
     let old = roles[role];
-    let mut lens = old.lens;
-    let mut bytes = old.bytes;
-    shelf::put(&mut lens, &mut bytes, place, b);
-    lens[place] = m;
-    s.roles[role] = Role { lens, bytes };
+    s.roles[role] = role_with(old, place, m, b);
     s
 }
 
@@ -64,11 +86,7 @@ pub(crate) fn file(mut s: State, file: usize, place: usize, m: u8, b: &[u8]) -> 
     }
     let files = s.files;
     let old = files[file];
-    let mut lens = old.lens;
-    let mut bytes = old.bytes;
-    shelf::put(&mut lens, &mut bytes, place, b);
-    lens[place] = m;
-    s.files[file] = File { lens, bytes };
+    s.files[file] = file_with(old, place, m, b);
     s
 }
 

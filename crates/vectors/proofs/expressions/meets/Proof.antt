@@ -1,6 +1,4 @@
--- `vectors::expressions::meets` shows the tree that `judge` asks for: it was found to be one. Assumes nothing.
-use mathlib.Core.Path.{subst}
-use Rattle.tree.specs.Tree.{Shaped}
+-- `vectors::expressions::meets` asks only of a tree. Assumes nothing.
 use borrow.Author.Needs.{needs}
 use Rattle.vectors.proofs.expressions.meets.Statement.{statement}
 use Rattle.vectors.proofs.expressions.meets.Tie as tie
@@ -8,20 +6,17 @@ use Rattle.vectors.proofs.expressions.meets.Tie as tie
 tree-requires : tie.Need-tree-requires
 tree-requires c κs = search needs
 
-shape-requires : tie.Need-shape-requires
-shape-requires c κs = search needs
-
-enum-told : tie.Need-enum-told
-enum-told c = search needs
+grown-requires : tie.Need-grown-requires
+grown-requires c κs = search needs
 
 set-with-requires : tie.Need-set-with-requires
 set-with-requires c κs = search needs
 
 judge-requires : tie.Need-judge-requires
-judge-requires c κs = subst (Shaped _) (c .before .enum-told .given .1) (c .before .before .before .shape .ensures)
+judge-requires c κs = c .before .before .grown .ensures .0 (c .before .if1 .taken)
 
-enum-told-2 : tie.Need-enum-told-2
-enum-told-2 c = search needs
+enum-told : tie.Need-enum-told
+enum-told c = search needs
 
 slice-aggregate-write-met : tie.Need-slice-aggregate-write-met
 slice-aggregate-write-met c = search needs
@@ -29,8 +24,8 @@ slice-aggregate-write-met c = search needs
 write-met-requires : tie.Need-write-met-requires
 write-met-requires c κs = search needs
 
-enum-told-3 : tie.Need-enum-told-3
-enum-told-3 c = search needs
+enum-told-2 : tie.Need-enum-told-2
+enum-told-2 c = search needs
 
 slice-aggregate-write-met-2 : tie.Need-slice-aggregate-write-met-2
 slice-aggregate-write-met-2 c = search needs
@@ -64,14 +59,13 @@ meets-spec =
     tie.close
     (tie.spec
     tree-requires
-    shape-requires
-    enum-told
+    grown-requires
     set-with-requires
     judge-requires
-    enum-told-2
+    enum-told
     slice-aggregate-write-met
     write-met-requires
-    enum-told-3
+    enum-told-2
     slice-aggregate-write-met-2
     write-met-requires-2
     enum-known-k

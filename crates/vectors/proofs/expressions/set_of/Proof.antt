@@ -1,6 +1,4 @@
--- `vectors::expressions::set_of` shows the tree that `name_set` asks for: it was found to be one. Assumes nothing.
-use mathlib.Core.Path.{subst}
-use Rattle.tree.specs.Tree.{Shaped}
+-- `vectors::expressions::set_of` asks only of a tree. Assumes nothing.
 use borrow.Author.Needs.{needs}
 use Rattle.vectors.proofs.expressions.set_of.Statement.{statement}
 use Rattle.vectors.proofs.expressions.set_of.Tie as tie
@@ -8,17 +6,14 @@ use Rattle.vectors.proofs.expressions.set_of.Tie as tie
 tree-requires : tie.Need-tree-requires
 tree-requires c κs = search needs
 
-shape-requires : tie.Need-shape-requires
-shape-requires c κs = search needs
+grown-requires : tie.Need-grown-requires
+grown-requires c κs = search needs
+
+name-set-requires : tie.Need-name-set-requires
+name-set-requires c κs = c .before .grown .ensures .0 (c .if1 .taken)
 
 enum-told : tie.Need-enum-told
 enum-told c = search needs
-
-name-set-requires : tie.Need-name-set-requires
-name-set-requires c κs = subst (Shaped _) (c .enum-told .given .1) (c .before .before .shape .ensures)
-
-enum-told-2 : tie.Need-enum-told-2
-enum-told-2 c = search needs
 
 write-set-requires : tie.Need-write-set-requires
 write-set-requires c κs = search needs
@@ -46,10 +41,9 @@ set-of-spec =
     tie.close
     (tie.spec
     tree-requires
-    shape-requires
-    enum-told
+    grown-requires
     name-set-requires
-    enum-told-2
+    enum-told
     write-set-requires
     enum-known-checked
     at-requires

@@ -4,15 +4,15 @@ use Prim.Native.Nat.{_≤_, _-_}
 use native.Mathlib.Omega.{arith}
 use borrow.Author.Needs.{needs}
 use lib.ListN.{length}
-use Rattle.securon.specs.Sets.{securons}
+use Rattle.securon.specs.Sets.{setRoom}
 use Rattle.vectors.proofs.expressions.write_set.Statement.{statement}
 use Rattle.vectors.proofs.expressions.write_set.Tie as tie
 
 abbrev Inv-loop : tie.InvT-loop
-Inv-loop name set k₀ t6 k = (k ≤ securons) × (length t6 ≡ 1)
+Inv-loop name set k₀ t6 k = (k ≤ setRoom) × (length t6 ≡ 1)
 
 abbrev μ-loop : tie.MeasureT-loop
-μ-loop name set k₀ t6 k = securons - k
+μ-loop name set k₀ t6 k = setRoom - k
 
 write-requires : tie.Need-write-requires Inv-loop μ-loop
 write-requires c κs = search needs
