@@ -14,7 +14,8 @@ use Rattle.script.specs.declared.Next.the-variants.{Ended, Cut, Whole}
 use Rattle.script.specs.declared.Told.{Told}
 use Rattle.script.specs.declared.Played.{Played}
 use Rattle.script.specs.Script.{Plays, ended, called, cut, cutLine}
-use Rattle.script.specs.Playing.{NextIs, PlayedIs, Puts, ToldIs, PlayedOn}
+use Rattle.script.specs.Playing.{NextIs, PlayedIs}
+use Rattle.script.specs.Inner.{Puts, ToldIs, PlayedOn}
 use Rattle.script.specs.FillLaws.{puts-none, puts-both}
 
 pub record Going (s₀ : State) (input : List ℕ) (from : ℕ) (first : List ℕ) (n : ℕ) (s : State) (at : ℕ) (before : List ℕ) (k : ℕ) : Type 0 where

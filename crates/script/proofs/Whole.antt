@@ -12,7 +12,7 @@ use Rattle.image.specs.Load.{Loads}
 use Rattle.policy.specs.declared.State.{State}
 use Rattle.policy.specs.State.{freshState}
 use Rattle.script.specs.Script.{Plays, Prints, Loaded, Replays, stated, imageIn, cutLine}
-use Rattle.script.specs.Playing.{Puts, PutsLine, PlayedOn}
+use Rattle.script.specs.Inner.{Puts, PutsLine, PlayedOn}
 use Rattle.script.specs.FillLaws.{filled-none, puts-both}
 
 -- what is written to the front of an output fills it

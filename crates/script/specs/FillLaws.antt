@@ -12,7 +12,7 @@ use Rattle.lines.specs.Lines.{Fills}
 use Rattle.script.specs.declared.Next.{Next}
 use Rattle.script.specs.declared.Told.{Told}
 use Rattle.script.specs.Script.{over, Filled}
-use Rattle.script.specs.Playing.{Puts, PutsLine, ToldIs}
+use Rattle.script.specs.Inner.{Puts, PutsLine, ToldIs}
 
 -- ---- one byte
 length-over : (w before : List ℕ) → length (over w before) ≡ length before

@@ -22,7 +22,8 @@ use Rattle.gate.specs.Effects.{after}
 use Rattle.script.specs.declared.Played.{Played}
 use Rattle.script.specs.declared.Next.{Next}
 use Rattle.script.specs.declared.Next.the-variants.{Ended, Cut, Whole}
-use Rattle.script.specs.Playing.{secondAt, endAt, firstOf, secondOf, storeIn, NoCall, NextIs, PlayedIs}
+use Rattle.script.specs.Playing.{NoCall, NextIs, PlayedIs}
+use Rattle.script.specs.Inner.{secondAt, endAt, firstOf, secondOf, storeIn}
 use Rattle.script.specs.Records.{second-length}
 
 -- ---- one record

@@ -9,7 +9,8 @@ use lib.Seq.{length-take-le, drop-drop, drop-cons, getD-drop, getD-append-seam}
 use Rattle.image.specs.Image.{expressionBytes}
 use Rattle.machine.specs.Machine.{begin, end, ask}
 use Rattle.script.specs.Script.{IsRecord, a-begin, an-end, an-ask, a-change, a-bypass}
-use Rattle.script.specs.Playing.{NoRecord, secondAt, endAt, firstOf, secondOf, storeOf, storeIn, Stored}
+use Rattle.script.specs.Playing.{NoRecord}
+use Rattle.script.specs.Inner.{secondAt, endAt, firstOf, secondOf, storeOf, storeIn, Stored}
 
 -- the code of a record is 1 to 5
 pub no-code : (bs : List ℕ) → (getD bs 0 0 ≡ 1 → ⊥) → (getD bs 0 0 ≡ 2 → ⊥) → (getD bs 0 0 ≡ 3 → ⊥)

@@ -5,7 +5,7 @@ use lib.ListN.{getD}
 use mathlib.Core.Bool.{false, true≢false, false≢true}
 use mathlib.Core.List.{List}
 use native.Mathlib.Omega.{arith}
-use Rattle.script.specs.Playing.{Stored, Bounded}
+use Rattle.script.specs.Inner.{Stored, Bounded}
 use borrow.Author.Needs.{needs}
 use Rattle.script.proofs.bounds_in.Statement.{statement}
 use Rattle.script.proofs.bounds_in.Tie as tie

@@ -8,7 +8,7 @@ use borrow.Author.Tests.{not-true, not-false}
 use Rattle.script.specs.Records.{stored-cut, store-whole}
 use Rattle.gate.specs.Effects.{after}
 use Rattle.machine.specs.Machine.{Step}
-use Rattle.script.specs.Playing.{secondOf, storeOf, storeIn}
+use Rattle.script.specs.Inner.{secondOf, storeOf, storeIn}
 use Rattle.script.specs.PlayLaws.{says-cut, parts}
 use borrow.Author.Needs.{needs}
 use Rattle.script.proofs.play_store.Statement.{statement}

@@ -6,7 +6,7 @@ use lib.ListN.{length, take}
 use lib.Seq.{take-all}
 use borrow.Author.Needs.{needs}
 use native.Mathlib.Omega.{arith}
-use Rattle.script.specs.Playing.{Puts}
+use Rattle.script.specs.Inner.{Puts}
 use Rattle.script.specs.FillLaws.{puts-none, puts-more}
 use Rattle.script.proofs.put_all.Statement.{statement}
 use Rattle.script.proofs.put_all.Tie as tie
