@@ -1,4 +1,4 @@
--- An answer by a list of conditions, in the paper's order: the first that does not hold decides (01, "Order").
+-- An answer by a list of conditions, in the paper's order: the first that does not hold decides (01, "Order"). Definitions only.
 use mathlib.Core.Path.{_≡_}
 use mathlib.Core.List.{List, [], _∷_}
 use mathlib.Core.Logic.{_⊎_}

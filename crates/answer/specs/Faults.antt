@@ -1,4 +1,4 @@
--- The place of a first fault: one notion for bytes (01, "Place for 6") and for text ("Place for 18").
+-- The place of a first fault: one notion for bytes (01, "Place for 6") and for text ("Place for 18"). Definitions only.
 use mathlib.Core.Path.{_≡_}
 use mathlib.Core.List.{List, _++_}
 use Prim.Native.Nat.{ℕ, _+_, _<_, _≤_}

@@ -1,4 +1,4 @@
--- The numbers given back (01, "Numbers given back"), by name.
+-- The numbers given back (01, "Numbers given back"), by name. Definitions only.
 use Prim.Native.Nat.{ℕ}
 
 -- done or granted

@@ -1,4 +1,5 @@
--- Demand 2, in the user's words: "Each answer and each new state is the one that chapter 2 of the toolkit report gives, as paper 01 fixes it: granted exactly when the rules grant, refused with that number exactly when they say so."
+-- Demand 2, in the user's words: "Each answer and each new state is the one that chapter 2 of the toolkit report gives, as paper 01 fixes it:
+-- granted exactly when the rules grant, refused with that number exactly when they say so." Assumes nothing.
 use mathlib.Core.Path.{_≡_, refl}
 use mathlib.Core.Bool.{true}
 use mathlib.Core.List.{List}
@@ -9,7 +10,8 @@ use Rattle.answer.specs.Answers.{Condition, DecidesAt, Granted, Is, AllHold, Fi
 use Rattle.answer.specs.Laws.{OnePlaceEach}
 use Rattle.policy.specs.State.{Free, By, withHold, withT1T2, withEG}
 use Rattle.policy.specs.declared.State.{State}
-use Rattle.gate.specs.Requests.{Outcome, beginConditions, endConditions, askConditions, changeConditions, bypassConditions, Does, Begins, Ends, Asks, Changes, Bypasses}
+use Rattle.gate.specs.Requests.{beginConditions, endConditions, askConditions, changeConditions, bypassConditions}
+use Rattle.gate.specs.Requests.{Outcome, Does, Begins, Ends, Asks, Changes, Bypasses}
 use Rattle.answer.specs.Lists.{refuses, granted-exactly, refused-exactly}
 use Rattle.gate.specs.Laws.{begin-places, end-places, ask-places, change-places, bypass-places}
 

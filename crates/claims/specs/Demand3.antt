@@ -1,4 +1,6 @@
--- Demand 3, in the user's words: "Over any sequence of requests after a granted load, with no later load and no bypass granted in it: every indelible part is still the loaded one; and if content could have moved from one file to another, any number of files long, nobody passes the indelible read conditions of the last without passing those of the first."
+-- Demand 3, in the user's words: "Over any sequence of requests after a granted load, with no later load and no bypass granted in it: every
+-- indelible part is still the loaded one; and if content could have moved from one file to another, any number of files long, nobody passes the
+-- indelible read conditions of the last without passing those of the first." Assumes nothing.
 use mathlib.Core.Path.{_≡_, ap, _∙_}
 use mathlib.Core.List.{List}
 use Prim.Native.Nat.{ℕ, _<_}
@@ -13,7 +15,8 @@ use Rattle.claims.specs.Trace.{Quiet, Reached, PassesIndelible}
 use Rattle.claims.specs.TraceLaws.{run-keeps}
 use Rattle.claims.specs.MoveLaws.{reached-confines, passes-first}
 
--- the setting: whatever the state before was, a load was granted and left the policy `loaded`; then came these requests, in which no load and no bypass was granted, and left `now`
+-- the setting: whatever the state before was, a load was granted and left the policy `loaded`; then came these requests,
+-- in which no load and no bypass was granted, and left `now`
 pub record AfterLoad (loaded now : State) (es : List Event) : Type 0 where
   pub before : State
   pub image : List ℕ

@@ -1,6 +1,6 @@
 -- The four empty versions of 01, "Proof obligations of the whole": each is shut out by the promises. They are theorems over any function that answers
--- requests, and not edits of ours, since the promises have to shut out every such program and not only a damaged one.
-use mathlib.Core.Path.{_≡_, refl, sym, ap, _∙_}
+-- requests, and not edits of ours, since the promises have to shut out every such program and not only a damaged one. Assumes nothing.
+use mathlib.Core.Path.{_≡_, sym, ap, _∙_}
 use native.Mathlib.Nat.{not-suc-le-zero}
 use lib.Dec.{lit<}
 use Rattle.answer.specs.declared.Answer.{Answer}

@@ -1,5 +1,5 @@
 -- Three examples, proved: sessions have to be told apart; the claim would be false with the mutable parts in it; and a granted bypass can break it.
--- So the hypotheses of demand 3 are needed.
+-- So the hypotheses of demand 3 are needed. Assumes nothing.
 use mathlib.Core.Path.{_≡_, refl, sym, ap, _∙_, subst}
 use mathlib.Core.List.{List, [], _∷_}
 use mathlib.Core.Logic.{inl, inr, ⊎-elim}
@@ -27,7 +27,8 @@ use Rattle.machine.specs.Machine.{begin, end, ask, bypass, Step, Event, Run, no
 use Rattle.claims.specs.Trace.{Quiet, Move, PassesIndelible}
 use Rattle.claims.specs.Steps.{granted, done, begin-step, end-step, ask-step, bypass-step}
 use Rattle.claims.specs.MoveLaws.{move-confines}
-use Rattle.claims.specs.Sample.{root, sample, sample-well-formed, sample-depth, sample-free, sample-counts, freed-again, RoleParts, FileParts, sample-role0, sample-role1, sample-role2, sample-file0, sample-file1, sample-file2, sample-file3}
+use Rattle.claims.specs.Sample.{root, sample, sample-well-formed, sample-depth, sample-free, sample-counts, freed-again, RoleParts, FileParts}
+use Rattle.claims.specs.Sample.{sample-role0, sample-role1, sample-role2, sample-file0, sample-file1, sample-file2, sample-file3}
 
 -- who is in the sets of the sample: 0 in {0}, nobody in length 0
 nobody : (t : Tree) (u : ℕ) → SET t [] u → ⊥

@@ -99,7 +99,8 @@ move-confines {s} {t} {es} r q {a} {b} m =
     let held = session-holds (w2 .mid) (m .slot) (reading .told .row .session .taken) in
     let still = run-holds (w3 .first) (q3 .0) (m .slot) role (m .not-ended-between) held in
     let same = one-role (w2 .mid) (w3 .mid) (m .slot) still in
-    mediated s (w2 .mid) (w3 .mid) before after role a b (reading .told .mediates) (subst (λ (x : ℕ). Mediates (w3 .mid) x b write) same (writing .told .mediates))
+    let by-same = subst (λ (x : ℕ). Mediates (w3 .mid) x b write) same (writing .told .mediates) in
+    mediated s (w2 .mid) (w3 .mid) before after role a b (reading .told .mediates) by-same
 
 -- moves one after another
 pub reached-confines : {s t : State} {es : List Event} → Run s es t → Quiet es → {a k b : ℕ} → ReachedBy es a k b → Confines s a b

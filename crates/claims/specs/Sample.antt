@@ -4,12 +4,12 @@ use mathlib.Core.List.{List, [], _∷_}
 use mathlib.Core.Logic.{inl, inr}
 use Prim.Native.Nat.{ℕ}
 use lib.Dec.{lit<, lit≤}
-use Rattle.tree.specs.declared.Tree.{Tree}
 use Rattle.tree.specs.Tree.{IsDepth}
 use Rattle.expression.specs.declared.Kind.{Kind}
 use Rattle.expression.specs.Expression.{one, term}
 use Rattle.expression.specs.Bytes.{InOrder}
-use Rattle.policy.specs.State.{Free, By, read, write, changeProtection, vPlusPlace, m1Place, bPlace, roleAt, freshState, setNroles, setNfiles, withRole, withT1T2, withEG, withHold, holdOf, vPlusOf, vMinusOf, m1Of, m2Of, bOf, t1Of, eOf, t2Of, gOf}
+use Rattle.policy.specs.State.{Free, By, read, write, changeProtection, vPlusPlace, m1Place, bPlace, roleAt, freshState, setNroles, setNfiles}
+use Rattle.policy.specs.State.{withRole, withT1T2, withEG, withHold, holdOf, vPlusOf, vMinusOf, m1Of, m2Of, bOf, t1Of, eOf, t2Of, gOf}
 use Rattle.policy.specs.declared.State.{State}
 use Rattle.shelf.specs.Shelf.{putBytes, padded}
 use Rattle.policy.specs.WellFormed.{WellFormed}
@@ -22,12 +22,12 @@ abbrev pub root : List ℕ
 root = 1 ∷ 0 ∷ []
 
 -- role 0 reads with {0}, mediates {0} and may bypass {0}; role 1 has nothing; role 2 reads with {0}.
--- Files 0 and 1 have E = {0} in their Read row; file 2 has nothing; file 3 has T1 = {0} there
-unfoldable pub withRoles : State
-withRoles = setNfiles (setNroles freshState 3) 4
+-- Files 0 and 1 have E = {0} in their Read row; file 2 has nothing; file 3 has T1 = {0} there. At first all of them have nothing
+unfoldable pub allEmpty : State
+allEmpty = setNfiles (setNroles freshState 3) 4
 
 unfoldable pub role0 : State
-role0 = withRole withRoles 0 (putRole (roleAt withRoles 0) (vPlusPlace read) root)
+role0 = withRole allEmpty 0 (putRole (roleAt allEmpty 0) (vPlusPlace read) root)
 
 unfoldable pub role0M1 : State
 role0M1 = withRole role0 0 (putRole (roleAt role0 0) m1Place root)
@@ -53,8 +53,8 @@ in-order kind = (lit≤ tt, inr (term (one 0), lit< tt, refl))
 none-in-order : (kind : Kind) → InOrder kind 1 0 []
 none-in-order kind = (lit≤ tt, inl refl)
 
-roles-well : WellFormed withRoles
-unfolding withRoles
+roles-well : WellFormed allEmpty
+unfolding allEmpty
 roles-well =
     let r1 = one-more-role freshState fresh-well-formed (lit< tt) in
     let r2 = one-more-role (setNroles freshState 1) r1 (lit< tt) in
@@ -65,49 +65,49 @@ roles-well =
     one-more-file (setNfiles (setNroles freshState 3) 3) f3 (lit< tt)
 
 role0-well : WellFormed role0
-unfolding withRoles role0
-role0-well = role-stored withRoles roles-well 0 root-depth 0 (lit< tt) (vPlusPlace read) (lit< tt) root (in-order _)
+unfolding allEmpty role0
+role0-well = role-stored allEmpty roles-well 0 root-depth 0 (lit< tt) (vPlusPlace read) (lit< tt) root (in-order _)
 
 role0M1-well : WellFormed role0M1
-unfolding withRoles role0 role0M1
+unfolding allEmpty role0 role0M1
 role0M1-well = role-stored role0 role0-well 0 root-depth 0 (lit< tt) m1Place (lit< tt) root (in-order _)
 
 role0B-well : WellFormed role0B
-unfolding withRoles role0 role0M1 role0B
+unfolding allEmpty role0 role0M1 role0B
 role0B-well = role-stored role0M1 role0M1-well 0 root-depth 0 (lit< tt) bPlace (lit< tt) root (in-order _)
 
 role2-well : WellFormed role2
-unfolding withRoles role0 role0M1 role0B role2
+unfolding allEmpty role0 role0M1 role0B role2
 role2-well = role-stored role0B role0B-well 0 root-depth 2 (lit< tt) (vPlusPlace read) (lit< tt) root (in-order _)
 
 file0-well : WellFormed file0
-unfolding withRoles role0 role0M1 role0B role2 file0
+unfolding allEmpty role0 role0M1 role0B role2 file0
 file0-well = eg-kept role2 role2-well 0 root-depth 0 (lit< tt) read (lit< tt) root [] (in-order _) (none-in-order _)
 
 file1-well : WellFormed file1
-unfolding withRoles role0 role0M1 role0B role2 file0 file1
+unfolding allEmpty role0 role0M1 role0B role2 file0 file1
 file1-well = eg-kept file0 file0-well 0 root-depth 1 (lit< tt) read (lit< tt) root [] (in-order _) (none-in-order _)
 
 pub sample-well-formed : WellFormed sample
-unfolding withRoles role0 role0M1 role0B role2 file0 file1 sample
+unfolding allEmpty role0 role0M1 role0B role2 file0 file1 sample
 sample-well-formed = t1t2-kept file1 file1-well 0 root-depth 3 (lit< tt) read (lit< tt) root [] (in-order _) (none-in-order _)
 
 -- ---- its parts, computed
 pub sample-depth : IsDepth (sample .tree) 0
-unfolding withRoles role0 role0M1 role0B role2 file0 file1 sample
+unfolding allEmpty role0 role0M1 role0B role2 file0 file1 sample
 sample-depth = root-depth
 
 pub sample-free : holdOf sample 0 ≡ Free
-unfolding withRoles role0 role0M1 role0B role2 file0 file1 sample
+unfolding allEmpty role0 role0M1 role0B role2 file0 file1 sample
 sample-free = refl
 
 pub sample-counts : (sample .nroles ≡ 3) × (sample .nfiles ≡ 4)
-unfolding withRoles role0 role0M1 role0B role2 file0 file1 sample
+unfolding allEmpty role0 role0M1 role0B role2 file0 file1 sample
 sample-counts = (refl, refl)
 
 -- a slot that was held and ended is free again, and then held by another
 pub freed-again : (x y : ℕ) → withHold (withHold (withHold sample 0 (By x)) 0 Free) 0 (By y) ≡ withHold sample 0 (By y)
-unfolding withRoles role0 role0M1 role0B role2 file0 file1 sample
+unfolding allEmpty role0 role0M1 role0B role2 file0 file1 sample
 freed-again x y = refl
 
 pub record RoleParts (s : State) (role : ℕ) (reading mediating bypassing : List ℕ) : Type 0 where
@@ -136,7 +136,7 @@ pub record FileParts (s : State) (file : ℕ) (mutable indelible : List ℕ) : T
   pub g-change : gOf s file changeProtection ≡ []
 
 pub sample-role0 : RoleParts sample 0 root root root
-unfolding withRoles role0 role0M1 role0B role2 file0 file1 sample putBytes padded
+unfolding allEmpty role0 role0M1 role0B role2 file0 file1 sample putBytes padded
 sample-role0 = record {
   v-plus = refl;
   v-minus = refl;
@@ -150,7 +150,7 @@ sample-role0 = record {
 }
 
 pub sample-role1 : RoleParts sample 1 [] [] []
-unfolding withRoles role0 role0M1 role0B role2 file0 file1 sample putBytes padded
+unfolding allEmpty role0 role0M1 role0B role2 file0 file1 sample putBytes padded
 sample-role1 = record {
   v-plus = refl;
   v-minus = refl;
@@ -164,7 +164,7 @@ sample-role1 = record {
 }
 
 pub sample-role2 : RoleParts sample 2 root [] []
-unfolding withRoles role0 role0M1 role0B role2 file0 file1 sample putBytes padded
+unfolding allEmpty role0 role0M1 role0B role2 file0 file1 sample putBytes padded
 sample-role2 = record {
   v-plus = refl;
   v-minus = refl;
@@ -178,7 +178,7 @@ sample-role2 = record {
 }
 
 pub sample-file0 : FileParts sample 0 [] root
-unfolding withRoles role0 role0M1 role0B role2 file0 file1 sample putBytes padded
+unfolding allEmpty role0 role0M1 role0B role2 file0 file1 sample putBytes padded
 sample-file0 = record {
   t1 = refl;
   e = refl;
@@ -195,7 +195,7 @@ sample-file0 = record {
 }
 
 pub sample-file1 : FileParts sample 1 [] root
-unfolding withRoles role0 role0M1 role0B role2 file0 file1 sample putBytes padded
+unfolding allEmpty role0 role0M1 role0B role2 file0 file1 sample putBytes padded
 sample-file1 = record {
   t1 = refl;
   e = refl;
@@ -212,7 +212,7 @@ sample-file1 = record {
 }
 
 pub sample-file2 : FileParts sample 2 [] []
-unfolding withRoles role0 role0M1 role0B role2 file0 file1 sample putBytes padded
+unfolding allEmpty role0 role0M1 role0B role2 file0 file1 sample putBytes padded
 sample-file2 = record {
   t1 = refl;
   e = refl;
@@ -229,7 +229,7 @@ sample-file2 = record {
 }
 
 pub sample-file3 : FileParts sample 3 root []
-unfolding withRoles role0 role0M1 role0B role2 file0 file1 sample putBytes padded
+unfolding allEmpty role0 role0M1 role0B role2 file0 file1 sample putBytes padded
 sample-file3 = record {
   t1 = refl;
   e = refl;

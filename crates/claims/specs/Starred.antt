@@ -1,4 +1,5 @@
--- The starred cases of 01, "Examples by hand", whole: one table, proved once of the meanings themselves. Those on SET, T1, E, T2 and G come from `expression`; those on Read and Write are here.
+-- The starred cases of 01, "Examples by hand", whole: one table, in the meanings themselves. Those on SET, T1, E, T2 and G come from `expression`; those
+-- on Read and Write are here. Definitions only.
 use mathlib.Core.Bool.{Bool, true, false}
 use mathlib.Core.List.{List, [], _∷_, _++_, map}
 use Prim.Native.Nat.{ℕ}

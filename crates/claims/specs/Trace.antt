@@ -63,7 +63,8 @@ pub data ReachedBy (es : List Event) (a : ℕ) : ℕ → ℕ → Type 0 where
 abbrev pub Reached : List Event → ℕ → ℕ → Type 0
 Reached es a b = (k : ℕ) × ReachedBy es a k b
 
--- the indelible read conditions of a file, for sets V+, V-, M1, M2 whatever they are: E within V+, G apart from V-, E within M1, G within M2, for its Read row. Mutable parts have no say
+-- the indelible read conditions of a file, for sets V+, V-, M1, M2 whatever they are: E within V+, G apart from V-, E within M1,
+-- G within M2, for its Read row. Mutable parts have no say
 pub record PassesIndelible (s : State) (file : ℕ) (vPlus vMinus m1 m2 : Set) : Type 0 where
   pub e-held : SET (s .tree) (eOf s file read) ⊆ vPlus
   pub g-apart : Apart vMinus (SET (s .tree) (gOf s file read))

@@ -1,5 +1,4 @@
--- The starred cases of 01, "Examples by hand", that speak of SET, T1, E, T2 and G: one table, proved once of the meanings themselves. Assumes nothing.
-use mathlib.Core.Path.{_≡_, refl}
+-- The starred cases of 01, "Examples by hand", that speak of SET, T1, E, T2 and G: one table, in the meanings themselves. Definitions only.
 use mathlib.Core.Bool.{Bool, true, false, _||_}
 use mathlib.Core.List.{List, [], _∷_}
 use Prim.Native.Nat.{ℕ}
@@ -72,7 +71,3 @@ cases =
 abbrev pub AllMean : List Case → Type 0
 AllMean [] = Unit {0}
 AllMean (c ∷ cs) = Means c × AllMean cs
-
--- the bytes that the paper gives for the third case are those of its expression
-pub bytes-as-given : bytes (term (one 1) OR (term (one 3) AND term (one 5))) ≡ 4 ∷ 1 ∷ 1 ∷ 3 ∷ 1 ∷ 3 ∷ 1 ∷ 5 ∷ []
-bytes-as-given = refl

@@ -11,7 +11,7 @@ use lib.ListN.{getD}
 use Rattle.securon.specs.Sets.{Set, _⊆_, _≐_, Apart, Marks, on}
 use Rattle.logic.specs.Iff.{and-iff, or-iff, iff-refl, iff-sym, iff-trans}
 use Rattle.tree.specs.Tree.{IsTree}
-use Rattle.expression.specs.Expression.{Expr, privilegeSET, Meets}
+use Rattle.expression.specs.Expression.{one, Expr, term, _AND_, _OR_, privilegeSET, Meets}
 use Rattle.expression.specs.Bytes.{bytes, SET, MeetsT1, MeetsT2}
 use Rattle.expression.specs.Scan.{bytes-some}
 use Rattle.expression.specs.Unique.{one-expression}
@@ -163,3 +163,7 @@ all-mean (c ∷ cs) h = let w = both-true (right c) (allRight cs) h in (right-me
 pub starred : AllMean cases
 unfolding allRight right namedB belowB metB anyB allB inB inTermB betweenB levelB reachesB
 starred = all-mean cases refl
+
+-- the bytes that the paper gives for the third case are those of its expression
+pub bytes-as-given : bytes (term (one 1) OR (term (one 3) AND term (one 5))) ≡ 4 ∷ 1 ∷ 1 ∷ 3 ∷ 1 ∷ 3 ∷ 1 ∷ 5 ∷ []
+bytes-as-given = refl

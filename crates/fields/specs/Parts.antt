@@ -12,7 +12,8 @@ use Rattle.answer.specs.Laws.{one-fault, no-fault}
 use Rattle.fields.specs.Format.{Refusal, Format}
 use Rattle.fields.specs.Means.{Judging, StretchTakes, StretchFaults, Test, WrongTogether, WrongByte}
 use Rattle.fields.specs.Combine.{give, _>>=_}
-use Rattle.fields.specs.Stretch.{stretch-one, stretch-apart, stretch-same, stretch-total, stretch-settled, stretch-inside, together-all, both-decided, byte-all, byte-so-far, byte-stays}
+use Rattle.fields.specs.Stretch.{stretch-one, stretch-apart, stretch-same, stretch-total, stretch-settled, stretch-inside}
+use Rattle.fields.specs.Stretch.{together-all, both-decided, byte-all, byte-so-far, byte-stays}
 
 -- a number from low to high
 abbrev pub between : ℕ → ℕ → Test ℕ

@@ -81,18 +81,16 @@ pub fn read_word(bytes: &[u8], from: Met, low: usize, high: usize, number: u8) -
             value: low,
         };
     };
+    let early = NumberMet {
+        met: Met::Refused(ENDS_EARLY, bytes.len()),
+        value: low,
+    };
     if bytes.len() <= at {
-        return NumberMet {
-            met: Met::Refused(ENDS_EARLY, bytes.len()),
-            value: low,
-        };
+        return early;
     }
     let second = at + 1;
     if bytes.len() <= second {
-        return NumberMet {
-            met: Met::Refused(ENDS_EARLY, bytes.len()),
-            value: low,
-        };
+        return early;
     }
     let value = low_first(bytes[at], bytes[second]);
     if value < low {

@@ -26,7 +26,7 @@ use Rattle.fields.specs.Readings.{reads-then, reads-made, alone-ends}
 use Rattle.fields.specs.Loads.{answers-done, answers-refused, not-done}
 use Rattle.image.specs.Image.{Expressions, Policy, noCount, mostInVersion1, version1, inUse, image, roleKinds, fileKinds}
 use Rattle.image.specs.Image.{shelf, counted, parentBytes, treeOf, withFiles, withRoles, body, head, policyImage}
-use Rattle.image.specs.Load.{roleOf, fileOf, stateOf, Loads}
+use Rattle.image.specs.Load.{asRole, asFile, stateOf, Loads}
 use Rattle.image.specs.Reading.{ReadsAs, TreeRead, RowsRead}
 
 -- a count, and so many
@@ -40,9 +40,9 @@ module _ (bs : List ℕ) {top : Met} (h : ReadsSome (head (inUse .latest)) bs (R
     {c : NumberMet} (n-read : NumberRead byte bs top 1 mostInVersion1 countWrong c)
     {grown : Met} {t : Tree} (t-read : TreeRead (c .value) bs (c .met) grown t) {d : ℕ} (deep : IsDepth t d)
     {rc : NumberMet} (rc-read : NumberRead byte bs grown 0 mostRoles countWrong rc)
-    {roled : Met} {roles : List Role} (r-read : RowsRead roleOf noRole mostRoles (shelf roleKinds (c .value - 1) d) (rc .value) bs (rc .met) roled roles)
+    {roled : Met} {roles : List Role} (r-read : RowsRead asRole noRole mostRoles (shelf roleKinds (c .value - 1) d) (rc .value) bs (rc .met) roled roles)
     {fc : NumberMet} (fc-read : NumberRead byte bs roled 0 mostFiles countWrong fc)
-    {filed : Met} {files : List File} (f-read : RowsRead fileOf noFile mostFiles (shelf fileKinds (c .value - 1) d) (fc .value) bs (fc .met) filed files)
+    {filed : Met} {files : List File} (f-read : RowsRead asFile noFile mostFiles (shelf fileKinds (c .value - 1) d) (fc .value) bs (fc .met) filed files)
   where
     abbrev ps : List ℕ
     ps = t-read .as-read .value

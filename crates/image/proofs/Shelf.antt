@@ -26,7 +26,7 @@ use Rattle.fields.specs.Parts.{between, byte}
 use Rattle.fields.specs.Reading.{Reads, ReadsSome, NumberRead}
 use Rattle.fields.specs.Readings.{reads-stays, reads-refused, reads-give, reads-then, reads-more}
 use Rattle.image.specs.Image.{Expressions, noExpression, stated, expression, shelf}
-use Rattle.image.specs.Load.{roleOf, fileOf}
+use Rattle.image.specs.Load.{asRole, asFile}
 use Rattle.image.specs.Reading.{ReadsAs, Short, Holds, Stocked, PutRead, kindsOf, ShelfRead}
 use Rattle.image.specs.Made.{room-length, kinds-are}
 use Rattle.image.proofs.Stated.{Found, stated-found}
@@ -190,12 +190,12 @@ module _ (file : Bool) (n d : ℕ) (bs : List ℕ) {from : Met} where
 
 -- a role and a file are such shelves
 module _ (F : Format Expressions) (bs : List ℕ) {from to : Met} {lens bytes : List ℕ} where
-  pub role-read : ShelfRead F bs from lens bytes to → ReadsAs F roleOf bs from to (record { lens = lens; bytes = bytes })
-  unfolding roleOf
+  pub role-read : ShelfRead F bs from lens bytes to → ReadsAs F asRole bs from to (record { lens = lens; bytes = bytes })
+  unfolding asRole
   role-read (xs, f, holds) =
       record { value = xs; reads = f; is = ap₂ {C = Role} (λ (l b : List ℕ). record { lens = l; bytes = b }) (holds .lengths) (holds .room) }
 
-  pub file-read : ShelfRead F bs from lens bytes to → ReadsAs F fileOf bs from to (record { lens = lens; bytes = bytes })
-  unfolding fileOf
+  pub file-read : ShelfRead F bs from lens bytes to → ReadsAs F asFile bs from to (record { lens = lens; bytes = bytes })
+  unfolding asFile
   file-read (xs, f, holds) =
       record { value = xs; reads = f; is = ap₂ {C = File} (λ (l b : List ℕ). record { lens = l; bytes = b }) (holds .lengths) (holds .room) }

@@ -14,20 +14,20 @@ use Rattle.image.specs.declared.Loaded.{Loaded}
 use Rattle.image.specs.Image.{Expressions, Policy, filled, image}
 
 -- a role, a file of these expressions: their lengths, and their bytes, each expression's with zero up to 48
-unfoldable pub roleOf : Expressions → Role
-roleOf xs = record { lens = map length xs; bytes = flatMap padded xs }
+unfoldable pub asRole : Expressions → Role
+asRole xs = record { lens = map length xs; bytes = flatMap padded xs }
 
-unfoldable pub fileOf : Expressions → File
-fileOf xs = record { lens = map length xs; bytes = flatMap padded xs }
+unfoldable pub asFile : Expressions → File
+asFile xs = record { lens = map length xs; bytes = flatMap padded xs }
 
 -- the state that a policy makes: all slots are free
 abbrev pub stateOf : Policy → State
 stateOf p = record {
   tree = p .tree;
   nroles = length (p .roles);
-  roles = filled mostRoles noRole (map roleOf (p .roles));
+  roles = filled mostRoles noRole (map asRole (p .roles));
   nfiles = length (p .files);
-  files = filled mostFiles noFile (map fileOf (p .files));
+  files = filled mostFiles noFile (map asFile (p .files));
   slots = replicate slotCount (slotWith Free);
 }
 

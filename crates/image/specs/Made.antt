@@ -22,7 +22,7 @@ use Rattle.policy.specs.Fine.{SlotIs, SlotsAre, Shelving, roleShelves, fileShel
 use Rattle.policy.specs.Fresh.{zero-places, zero-shelf}
 use Rattle.policy.specs.Whole.{free-held, fine-well-formed}
 use Rattle.image.specs.Image.{Expressions, Policy, version1, filled, each, roleKinds, fileKinds, image}
-use Rattle.image.specs.Load.{roleOf, fileOf, stateOf}
+use Rattle.image.specs.Load.{asRole, asFile, stateOf}
 use Rattle.image.specs.Reading.{Short, kindsOf}
 use Rattle.image.specs.Filled.{length-filled, filled-at, filled-past}
 use Rattle.image.specs.Taken.{InPlace, AllInPlace, PolicyFine, image-fine}
@@ -183,20 +183,20 @@ free-slots count = record {
   each = λ i h. subst (SlotIs count) (sym (getD-replicate slotCount i (slotWith Free) 0 h)) (λ r e. absurd (free-held e));
 }
 
-role-lens : (xs : Expressions) → roleOf xs .lens ≡ map length xs
-unfolding roleOf
+role-lens : (xs : Expressions) → asRole xs .lens ≡ map length xs
+unfolding asRole
 role-lens xs = refl
 
-role-room : (xs : Expressions) → roleOf xs .bytes ≡ flatMap padded xs
-unfolding roleOf
+role-room : (xs : Expressions) → asRole xs .bytes ≡ flatMap padded xs
+unfolding asRole
 role-room xs = refl
 
-file-lens : (xs : Expressions) → fileOf xs .lens ≡ map length xs
-unfolding fileOf
+file-lens : (xs : Expressions) → asFile xs .lens ≡ map length xs
+unfolding asFile
 file-lens xs = refl
 
-file-room : (xs : Expressions) → fileOf xs .bytes ≡ flatMap padded xs
-unfolding fileOf
+file-room : (xs : Expressions) → asFile xs .bytes ≡ flatMap padded xs
+unfolding asFile
 file-room xs = refl
 
 -- the state of a policy of version 1
@@ -207,15 +207,15 @@ module _ (p : Policy) (f : PolicyFine version1 p) where
   abbrev d : ℕ
   d = depthOf (p .tree)
 
-  roles-made : AllAre roleShelves (roleUsed (stateOf p)) n d (filled mostRoles noRole (map roleOf (p .roles)))
+  roles-made : AllAre roleShelves (roleUsed (stateOf p)) n d (filled mostRoles noRole (map asRole (p .roles)))
   roles-made =
       let place = zero-places rolePlaces in
-      all-made roleShelves roleOf noRole role-lens role-room place (zero-shelf rolePlaces) roleKinds role-kinds refl n d (p .roles) (f .roles)
+      all-made roleShelves asRole noRole role-lens role-room place (zero-shelf rolePlaces) roleKinds role-kinds refl n d (p .roles) (f .roles)
 
-  files-made : AllAre fileShelves (fileUsed (stateOf p)) n d (filled mostFiles noFile (map fileOf (p .files)))
+  files-made : AllAre fileShelves (fileUsed (stateOf p)) n d (filled mostFiles noFile (map asFile (p .files)))
   files-made =
       let place = zero-places filePlaces in
-      all-made fileShelves fileOf noFile file-lens file-room place (zero-shelf filePlaces) fileKinds file-kinds refl n d (p .files) (f .files)
+      all-made fileShelves asFile noFile file-lens file-room place (zero-shelf filePlaces) fileKinds file-kinds refl n d (p .files) (f .files)
 
   pub made-well-formed : WellFormed (stateOf p)
   made-well-formed = fine-well-formed (stateOf p) d (depth-is (p .tree) (f .tree .is-tree)) (record {

@@ -32,7 +32,7 @@ ghost use Rattle.policy.specs.State.{mostRoles, mostFiles, noRole, noFile};
 ghost use Rattle.fields.specs.declared.Met.the-variants.{Read};
 ghost use Rattle.fields.specs.Reading.{ReadsSome};
 ghost use Rattle.image.specs.Image.{head, inUse, stated, shelf as shelfOf, roleKinds, fileKinds, policyImage};
-ghost use Rattle.image.specs.Load.{roleOf, fileOf, stateOf, Loads};
+ghost use Rattle.image.specs.Load.{asRole, asFile, stateOf, Loads};
 ghost use Rattle.image.specs.Reading.{ReadsAs, TreeRead, PutRead, kindsOf, Stocked, ShelfRead, RowsRead};
 
 // Mark `SPT`.
@@ -203,7 +203,7 @@ fn read_shelf(
 // One role.
 fn read_role(image: &[u8], from: Met, n: usize, depth: Level) -> RoleMet
     requires { ⌜ 0 < n ⌝ }
-    ensures { λ r. ⌜ ReadsAs (shelfOf roleKinds (n - 1) (depth .0)) roleOf (now (image .entry)) from (r .met) (r .role) ⌝ }
+    ensures { λ r. ⌜ ReadsAs (shelfOf roleKinds (n - 1) (depth .0)) asRole (now (image .entry)) from (r .met) (r .role) ⌝ }
 {
     let mut lens = [0u8; ROLE_PLACES];
     let mut bytes = [0u8; ROLE_BYTES];
@@ -215,7 +215,7 @@ fn read_role(image: &[u8], from: Met, n: usize, depth: Level) -> RoleMet
 // One file.
 fn read_file(image: &[u8], from: Met, n: usize, depth: Level) -> FileMet
     requires { ⌜ 0 < n ⌝ }
-    ensures { λ r. ⌜ ReadsAs (shelfOf fileKinds (n - 1) (depth .0)) fileOf (now (image .entry)) from (r .met) (r .file) ⌝ }
+    ensures { λ r. ⌜ ReadsAs (shelfOf fileKinds (n - 1) (depth .0)) asFile (now (image .entry)) from (r .met) (r .file) ⌝ }
 {
     let mut lens = [0u8; FILE_PLACES];
     let mut bytes = [0u8; FILE_BYTES];
@@ -227,7 +227,7 @@ fn read_file(image: &[u8], from: Met, n: usize, depth: Level) -> FileMet
 // So many roles; those from the count up are zero.
 fn read_roles(image: &[u8], from: Met, count: usize, n: usize, depth: Level) -> RolesMet
     requires { ⌜ (0 < n) × (count ≤ mostRoles) ⌝ }
-    ensures { λ r. ⌜ RowsRead roleOf noRole mostRoles (shelfOf roleKinds (n - 1) (depth .0)) count (now (image .entry)) from (r .met) (r .roles) ⌝ }
+    ensures { λ r. ⌜ RowsRead asRole noRole mostRoles (shelfOf roleKinds (n - 1) (depth .0)) count (now (image .entry)) from (r .met) (r .roles) ⌝ }
 {
     let none = Role {
         lens: [0u8; ROLE_PLACES],
@@ -247,7 +247,7 @@ fn read_roles(image: &[u8], from: Met, count: usize, n: usize, depth: Level) -> 
 // So many files; those from the count up are zero.
 fn read_files(image: &[u8], from: Met, count: usize, n: usize, depth: Level) -> FilesMet
     requires { ⌜ (0 < n) × (count ≤ mostFiles) ⌝ }
-    ensures { λ r. ⌜ RowsRead fileOf noFile mostFiles (shelfOf fileKinds (n - 1) (depth .0)) count (now (image .entry)) from (r .met) (r .files) ⌝ }
+    ensures { λ r. ⌜ RowsRead asFile noFile mostFiles (shelfOf fileKinds (n - 1) (depth .0)) count (now (image .entry)) from (r .met) (r .files) ⌝ }
 {
     let none = File {
         lens: [0u8; FILE_PLACES],

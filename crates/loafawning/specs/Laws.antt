@@ -28,4 +28,5 @@ one-packed a b h k e = (omega arith, omega arith)
 pub one-turn : {text before x y : List ℕ} {r s : ℕ} → Turns text before x r → Turns text before y s → (r ≡ s) × (x ≡ y)
 one-turn {text} {before} {x} {y} p q =
     let e : p .answer ≡ q .answer = one-text-answer text (length before) (p .answer) (q .answer) (p .decides) (q .decides) in
-    (p .is ∙ ap packed e ∙ sym (q .is), one-text-output text (p .answer) before x y (p .leaves) (subst (λ (a : Answer). Leaves a (textMakes text before) before y) (sym e) (q .leaves)))
+    let leaves = subst (λ (a : Answer). Leaves a (textMakes text before) before y) (sym e) (q .leaves) in
+    (p .is ∙ ap packed e ∙ sym (q .is), one-text-output text (p .answer) before x y (p .leaves) leaves)

@@ -1,7 +1,7 @@
 -- Well formed, shelf by shelf, as the examination goes: what each of its functions tells. A device of the proofs.
 use mathlib.Core.Path.{_≡_, refl}
 use mathlib.Core.Bool.{Bool, true, false}
-use mathlib.Core.List.{List, []}
+use mathlib.Core.List.{List}
 use mathlib.Core.Logic.{_↔_}
 use Prim.Native.Nat.{ℕ, _<_, _≤_}
 use lib.Dec.{ltb}
@@ -27,15 +27,12 @@ pub record Shelving (X : Type 0) : Type 0 where
   pub places : ℕ
   pub most : ℕ
 
-pub nil-zero : ZeroShelf [] []
-nil-zero = record { lengths = λ i. refl; room = λ i. refl }
-
 abbrev pub roleShelves : Shelving Role
 roleShelves = record {
   lensOf = λ r. r .lens;
   bytesOf = λ r. r .bytes;
   off = offRole;
-  nothing = nil-zero;
+  nothing = record { lengths = λ i. refl; room = λ i. refl };
   file = false;
   places = rolePlaces;
   most = mostRoles;
@@ -46,7 +43,7 @@ fileShelves = record {
   lensOf = λ f. f .lens;
   bytesOf = λ f. f .bytes;
   off = offFile;
-  nothing = nil-zero;
+  nothing = record { lengths = λ i. refl; room = λ i. refl };
   file = true;
   places = filePlaces;
   most = mostFiles;

@@ -11,7 +11,8 @@ ghost use Prim.Native.Nat.{_+_, _<_, _≤_};
 ghost use lib.ListN.{length};
 ghost use Rattle.expression.specs.Bytes.{longest};
 ghost use Rattle.tree.specs.Tree.{IsTree};
-ghost use Rattle.policy.specs.State.{IsMode, mostRoles, mostFiles, filePlaces, senses, parts, rolePlace, filePlace, noRole, noFile, noLevels, freshState, Free, By, heldIn, slotWith, roleIn, putPair};
+ghost use Rattle.policy.specs.State.{IsMode, mostRoles, mostFiles, filePlaces, senses, parts, rolePlace, filePlace, noRole, noFile};
+ghost use Rattle.policy.specs.State.{noLevels, freshState, Free, By, heldIn, slotWith, roleIn, putPair};
 ghost use Rattle.policy.specs.WellFormed.{Examines};
 ghost use Rattle.policy.specs.Fine.{roleShelves, fileShelves, OneIs, SlotIs, SlotsAre, RoleHeld, TreeFine, TreeExamined};
 

@@ -8,11 +8,14 @@ use lib.ListN.{length, take, drop, length-drop}
 use lib.Seq.{take-all, drop-drop}
 use Rattle.answer.specs.declared.Answer.{Answer}
 use Rattle.policy.specs.declared.State.{State}
+use Rattle.gate.specs.Effects.{after}
 use Rattle.script.specs.declared.Next.{Next}
 use Rattle.script.specs.declared.Next.the-variants.{Ended, Cut, Whole}
 use Rattle.script.specs.declared.Told.{Told}
+use Rattle.script.specs.declared.Played.{Played}
 use Rattle.script.specs.Script.{Plays, ended, called, cut, cutLine}
-use Rattle.script.specs.Playing.{NextIs, Puts, ToldIs, PlayedOn}
+use Rattle.script.specs.Playing.{NextIs, PlayedIs}
+use Rattle.script.specs.Inner.{Puts, ToldIs, PlayedOn}
 use Rattle.script.specs.FillLaws.{puts-none, puts-both}
 
 pub record Going (s₀ : State) (input : List ℕ) (from : ℕ) (first : List ℕ) (n : ℕ) (s : State) (at : ℕ) (before : List ℕ) (k : ℕ) : Type 0 where
@@ -25,7 +28,8 @@ pub record Going (s₀ : State) (input : List ℕ) (from : ℕ) (first : List �
 pub going-first : (s : State) (input : List ℕ) (from : ℕ) (first : List ℕ) (n : ℕ) → from ≤ length input → Going s input from first n s from first n
 going-first s input from first n h = record { within = h; long = refl; printed = []; put = puts-none first n; on = λ rest p. p }
 
-module _ (s₀ : State) (input : List ℕ) (from : ℕ) (first : List ℕ) (n : ℕ) (s : State) (at : ℕ) (before : List ℕ) (k : ℕ) (g : Going s₀ input from first n s at before k) where
+module _ {s₀ : State} {input : List ℕ} {from : ℕ} {first : List ℕ} {n : ℕ} {s : State} {at : ℕ} {before : List ℕ} {k : ℕ}
+    (g : Going s₀ input from first n s at before k) where
   bytes-left : take (length input - at) (drop at input) ≡ drop at input
   bytes-left = take-all (length input - at) (drop at input) (omega (arith, length-drop at input))
 
@@ -34,30 +38,42 @@ module _ (s₀ : State) (input : List ℕ) (from : ℕ) (first : List ℕ) (n : 
     ends-with : (w : List ℕ) → Plays s (drop at input) w → Puts w before k after (r .n) → PlayedOn s₀ (drop from input) first n after (r .n)
     ends-with w p q = record { printed = g .printed ++ w; plays = g .on w p; put = puts-both (g .printed) w first before after n k (r .n) (g .put) q }
 
-    last : (next : Next) → NextIs s (drop at input) a t next → ToldIs next a before k after r → r .more ≡ false → PlayedOn s₀ (drop from input) first n after (r .n)
+    last : (next : Next) → NextIs s (drop at input) a t next → ToldIs next a before k after r
+        → r .more ≡ false → PlayedOn s₀ (drop from input) first n after (r .n)
     last Ended e p m = ends-with [] (subst (λ (l : List ℕ). Plays s l []) (sym (e .0)) ended) (p .1)
     last Cut e p m = ends-with cutLine (cut (e .0) (e .1)) (p .1)
     last (Whole j) e p m = absurd (true≢false (sym (p .0) ∙ m))
 
-    goes-on : (next : Next) → NextIs s (drop at input) a t next → ToldIs next a before k after r → r .more ≡ true → length after ≡ length before → (0 < r .used) × Going s₀ input from first n t (at + r .used) after (r .n)
+    goes-on : (next : Next) → NextIs s (drop at input) a t next → ToldIs next a before k after r
+        → r .more ≡ true → length after ≡ length before → (0 < r .used) × Going s₀ input from first n t (at + r .used) after (r .n)
     goes-on Ended e p m h = absurd (false≢true (sym (p .0) ∙ m))
     goes-on Cut e p m h = absurd (false≢true (sym (p .0) ∙ m))
     goes-on (Whole j) e p m h =
         let u : r .used ≡ j = p .1 in
         let l = length-drop at input in
-        let d : drop (r .used) (drop at input) ≡ drop (at + r .used) input = drop-drop (r .used) at input in (
+        let d : drop (r .used) (drop at input) ≡ drop (at + r .used) input = drop-drop (r .used) at input in
+        let left = sym d ∙ ap (λ (i : ℕ). drop i (drop at input)) u in (
           omega (arith, e .3),
           record {
             within = omega (arith, e .4, g .within);
             long = h ∙ g .long;
             printed = g .printed ++ (p .2 .0);
             put = puts-both (g .printed) (p .2 .0) first before after n k (r .n) (g .put) (p .2 .2);
-            on = λ rest q. rw append-assoc (g .on (p .2 .0 ++ rest) (called (e .1) (e .2) (p .2 .1) (subst (λ (b : List ℕ). Plays t b rest) (sym d ∙ ap (λ (i : ℕ). drop i (drop at input)) u) q)));
+            on = λ rest q. rw append-assoc (g .on (p .2 .0 ++ rest) (called (e .1) (e .2) (p .2 .1) (subst (λ (b : List ℕ). Plays t b rest) left q)));
           },
         )
 
-    pub stops : (next : Next) → NextIs s (take (length input - at) (drop at input)) a t next → ToldIs next a before k after r → r .more ≡ false → PlayedOn s₀ (drop from input) first n after (r .n)
-    stops next e = last next (subst (λ (b : List ℕ). NextIs s b a t next) bytes-left e)
+  -- the same of a record as it was played and told
+  module _ (x : Played) (out : List ℕ) (r : Told) (p : PlayedIs s (take (length input - at) (drop at input)) x)
+      (told : ToldIs (x .next) (x .effect .answer) before k out r) where
+    abbrev then : State
+    then = after s (x .effect)
 
-    pub goes : (next : Next) → NextIs s (take (length input - at) (drop at input)) a t next → ToldIs next a before k after r → r .more ≡ true → length after ≡ length before → (0 < r .used) × Going s₀ input from first n t (at + r .used) after (r .n)
-    goes next e = goes-on next (subst (λ (b : List ℕ). NextIs s b a t next) bytes-left e)
+    next-is : NextIs s (drop at input) (x .effect .answer) then (x .next)
+    next-is = subst (λ (b : List ℕ). NextIs s b (x .effect .answer) then (x .next)) bytes-left (p .is)
+
+    pub stops : r .more ≡ false → PlayedOn s₀ (drop from input) first n out (r .n)
+    stops m = last (x .effect .answer) then out r (x .next) next-is told m
+
+    pub goes : r .more ≡ true → length out ≡ length before → (0 < r .used) × Going s₀ input from first n then (at + r .used) out (r .n)
+    goes m h = goes-on (x .effect .answer) then out r (x .next) next-is told m h

@@ -12,7 +12,7 @@ use Rattle.image.specs.Load.{Loads}
 use Rattle.policy.specs.declared.State.{State}
 use Rattle.policy.specs.State.{freshState}
 use Rattle.script.specs.Script.{Plays, Prints, Loaded, Replays, stated, imageIn, cutLine}
-use Rattle.script.specs.Playing.{Puts, PutsLine, PlayedOn}
+use Rattle.script.specs.Inner.{Puts, PutsLine, PlayedOn}
 use Rattle.script.specs.FillLaws.{filled-none, puts-both}
 
 -- what is written to the front of an output fills it
@@ -38,13 +38,30 @@ module _ (input : List ℕ) (two : 2 ≤ length input) (end : ℕ) (ends : end �
     loads = subst (λ (s : State). Loads (imageIn input) s d) is-fresh (subst (λ (b : List ℕ). Loads b fresh d) image-there l)
 
     module _ (before between : List ℕ) (n : ℕ) (p : PutsLine (d .answer) before 0 between n) where
-      prints : (rest : List ℕ) → (2 + stated input ≤ length input → Plays (d .state) (drop (2 + stated input) input) rest) → (length input < 2 + stated input → rest ≡ []) → Prints input (p .0 ++ rest)
-      prints rest w s = inr (record { two = two; answer = d .answer; state = d .state; line = p .0; rest = rest; loads = loads; is-line = p .1; is = refl; whole = w; short = s })
+      prints : (rest : List ℕ) → (2 + stated input ≤ length input → Plays (d .state) (drop (2 + stated input) input) rest)
+          → (length input < 2 + stated input → rest ≡ []) → Prints input (p .0 ++ rest)
+      prints rest w s =
+          inr
+          (record {
+            two = two;
+            answer = d .answer;
+            state = d .state;
+            line = p .0;
+            rest = rest;
+            loads = loads;
+            is-line = p .1;
+            is = refl;
+            whole = w;
+            short = s;
+          })
 
       pub image-short : end < 2 + stated input → Replays input before between n
-      image-short h = replayed input (p .0) before between n (subst (Prints input) (append-nil (p .0)) (prints [] (λ e. absurd (omega arith)) (λ _. refl))) (p .2)
+      image-short h =
+          let all = subst (Prints input) (append-nil (p .0)) (prints [] (λ e. absurd (omega arith)) (λ _. refl)) in
+          replayed input (p .0) before between n all (p .2)
 
-      pub image-whole : (after : List ℕ) (r : ℕ) → 2 + stated input ≤ end → PlayedOn (d .state) (drop end input) between n after r → Replays input before after r
+      pub image-whole : (after : List ℕ) (r : ℕ) → 2 + stated input ≤ end → PlayedOn (d .state) (drop end input) between n after r
+          → Replays input before after r
       image-whole after r h q =
           let e : end ≡ 2 + stated input = omega arith in
           replayed input (p .0 ++ q .printed) before after r

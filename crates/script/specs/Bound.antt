@@ -16,14 +16,15 @@ use Rattle.gate.specs.Small.{Small, begin-small, end-small, ask-small, change-s
 use Rattle.machine.specs.Machine.{Request, Step}
 use Rattle.lines.specs.Lines.{Line}
 use Rattle.lines.specs.Lengths.{line-length, under-power}
-use Rattle.script.specs.Script.{Reads, a-begin, an-end, an-ask, a-change, a-bypass, Plays, ended, called, cut, Prints, stated, imageIn}
+use Rattle.script.specs.Script.{IsRecord, a-begin, an-end, an-ask, a-change, a-bypass, Plays, ended, called, cut, Prints, stated, imageIn}
 
 -- the line of an answer whose place has j + 1 digits
 small-line : {a : Answer} {l : List ℕ} (j : ℕ) → Small (10 ^ suc j) a → Line a [] l → length l ≤ j + 5
 small-line j w x = omega (arith, line-length 1 j (w .0) (w .1) x)
 
 -- each byte of a record pays for three of its line
-record-line : (s t : State) {bytes rest l : List ℕ} {q : Request} {a : Answer} → Reads bytes q rest → Step s q a t → Line a [] l → length l + 3 * length rest ≤ 3 * length bytes
+record-line : (s t : State) {bytes rest l : List ℕ} {q : Request} {a : Answer} → IsRecord bytes q rest → Step s q a t → Line a [] l
+    → length l + 3 * length rest ≤ 3 * length bytes
 record-line s t {a = a} (a-begin {slot} {role}) w x = omega (arith, small-line 0 (begin-small s slot role a (w .decides)) x)
 record-line s t {a = a} (an-end {slot}) w x = omega (arith, small-line 0 (end-small s slot a (w .decides)) x)
 record-line s t {a = a} (an-ask {slot} {file} {mode}) w x = omega (arith, small-line 0 (ask-small s slot file mode a (w .decides)) x)
@@ -39,7 +40,8 @@ play-length {s} (called {t = t} {line = l} {printed = p} r w x more) = omega (ar
 play-length (cut some none) = omega arith
 
 -- the line of a load
-load-line : {a : Answer} {l : List ℕ} (bs : List ℕ) (before after : State) → Loads bs before (record { answer = a; state = after }) → Line a [] l → length l ≤ 4 + length bs
+load-line : {a : Answer} {l : List ℕ} (bs : List ℕ) (before after : State) → Loads bs before (record { answer = a; state = after }) → Line a [] l
+    → length l ≤ 4 + length bs
 load-line {a} bs before after w x =
     let i = load-inside bs before after w in omega (arith, i .1, line-length 0 (a .place) (i .0) (under-power (a .place)) x)
 
@@ -47,7 +49,9 @@ load-line {a} bs before after w x =
 pub short-output : {input printed : List ℕ} → Prints input printed → length printed ≤ 4 + 3 * length input
 short-output (inl x) = omega (arith, ap length (x .1))
 short-output {input} (inr x) =
-    omega (arith, ap length (x .is) ∙ length-append (x .line) (x .rest), load-line (imageIn input) freshState (x .state) (x .loads) (x .is-line), go (decLe (2 + stated input) (length input)))
+    let all = ap length (x .is) ∙ length-append (x .line) (x .rest) in
+    let first = load-line (imageIn input) freshState (x .state) (x .loads) (x .is-line) in
+    omega (arith, all, first, go (decLe (2 + stated input) (length input)))
   where
     image : (length (imageIn input) ≤ stated input) × (length (imageIn input) ≤ length input)
     image =

@@ -12,7 +12,7 @@ use Rattle.lines.specs.Lines.{Fills}
 use Rattle.script.specs.declared.Next.{Next}
 use Rattle.script.specs.declared.Told.{Told}
 use Rattle.script.specs.Script.{over, Filled}
-use Rattle.script.specs.Playing.{Puts, PutsLine, ToldIs}
+use Rattle.script.specs.Inner.{Puts, PutsLine, ToldIs}
 
 -- ---- one byte
 length-over : (w before : List ℕ) → length (over w before) ≡ length before
@@ -39,8 +39,9 @@ module _ (held first before : List ℕ) (n : ℕ) (f : Filled held first before 
           let m : n ≡ length held = f .fits a in
           let l = long in
           let o : length (held ++ (x ∷ [])) ≡ suc (length held) = length-append held (x ∷ []) ∙ omega arith in
+          let split = ap (λ (b : List ℕ). held ++ b) (drop-cons first (length held) 0 (omega arith)) in
           let z : set before n x ≡ held ++ (x ∷ drop (suc (length held)) first) =
-          ap (λ (b : List ℕ). set b n x) (f .is ∙ over-fits held first a ∙ ap (λ (b : List ℕ). held ++ b) (drop-cons first (length held) 0 (omega arith))) ∙ set-at held _ _ x n (sym m) in
+          ap (λ (b : List ℕ). set b n x) (f .is ∙ over-fits held first a ∙ split) ∙ set-at held _ _ x n (sym m) in
           record {
             is =
                 z ∙ sym (append-assoc held (x ∷ []) (drop (suc (length held)) first)) ∙ ap (λ (k : ℕ). (held ++ (x ∷ [])) ++ drop k first) (sym o)
@@ -82,9 +83,11 @@ pub puts-none : (before : List ℕ) (n : ℕ) → Puts [] before n before n
 puts-none before n first held f = rw append-nil f
 
 pub puts-both : (u w before between after : List ℕ) (n k r : ℕ) → Puts u before n between k → Puts w between k after r → Puts (u ++ w) before n after r
-puts-both u w before between after n k r p q first held f = subst (λ (l : List ℕ). Filled l first after r) (append-assoc held u w) (q first (held ++ u) (p first held f))
+puts-both u w before between after n k r p q first held f =
+    subst (λ (l : List ℕ). Filled l first after r) (append-assoc held u w) (q first (held ++ u) (p first held f))
 
-pub puts-more : (w before between after : List ℕ) (n k r i : ℕ) → i < length w → Puts (take i w) before n between k → Puts (getD w i 0 ∷ []) between k after r → Puts (take (i + 1) w) before n after r
+pub puts-more : (w before between after : List ℕ) (n k r i : ℕ) → i < length w → Puts (take i w) before n between k
+    → Puts (getD w i 0 ∷ []) between k after r → Puts (take (i + 1) w) before n after r
 puts-more w before between after n k r i h p q = rw (add-one, take-suc w i 0) (puts-both (take i w) (getD w i 0 ∷ []) before between after n k r p q)
 
 -- an output holds nothing at first
@@ -92,10 +95,13 @@ pub filled-none : (first : List ℕ) → Filled [] first first 0
 filled-none first = record { is = sym (over-fits [] first (omega arith)); fits = λ _. refl; full = λ h. absurd (omega arith) }
 
 -- the line of an answer, printed apart
-pub puts-line : (a : Answer) (apart printed before after : List ℕ) (long n r : ℕ) → Fills a [] apart printed long → Puts (take long printed) before n after r → PutsLine a before n after r
+pub puts-line : (a : Answer) (apart printed before after : List ℕ) (long n r : ℕ) → Fills a [] apart printed long
+    → Puts (take long printed) before n after r → PutsLine a before n after r
 puts-line a apart printed before after long n r f p =
-    (f .line, f .is-line, subst (λ (l : List ℕ). Puts l before n after r) (ap (take long) (f .filled) ∙ take-at (f .line) (drop long apart) long (sym (f .count))) p)
+    let e = ap (take long) (f .filled) ∙ take-at (f .line) (drop long apart) long (sym (f .count)) in
+    (f .line, f .is-line, subst (λ (l : List ℕ). Puts l before n after r) e p)
 
 -- what is told of a record is told by its kind
-pub told-as : (next x : Next) (a : Answer) (before : List ℕ) (n : ℕ) (after : List ℕ) (r : Told) → next ≡ x → ToldIs x a before n after r → ToldIs next a before n after r
+pub told-as : (next x : Next) (a : Answer) (before : List ℕ) (n : ℕ) (after : List ℕ) (r : Told) → next ≡ x
+    → ToldIs x a before n after r → ToldIs next a before n after r
 told-as next x a before n after r e p = subst (λ (y : Next). ToldIs y a before n after r) (sym e) p

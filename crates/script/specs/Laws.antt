@@ -17,13 +17,14 @@ use Rattle.machine.specs.Machine.{Request, load, begin, end, ask, change, bypas
 use Rattle.machine.specs.Laws.{Same, one-step}
 use Rattle.lines.specs.Lines.{Line}
 use Rattle.lines.specs.Laws.{one-line}
-use Rattle.script.specs.Script.{Reads, a-begin, an-end, an-ask, a-change, a-bypass, Plays, ended, called, cut, Prints, stated, imageIn, over, Replays}
+use Rattle.script.specs.Script.{IsRecord, a-begin, an-end, an-ask, a-change, a-bypass, Plays, ended, called, cut, Prints, stated, imageIn, over, Replays}
 use Rattle.gate.specs.Effects.{after}
 use Rattle.script.specs.declared.Played.{Played}
 use Rattle.script.specs.declared.Next.{Next}
 use Rattle.script.specs.declared.Next.the-variants.{Ended, Cut, Whole}
 use Rattle.script.specs.Playing.{NoCall, NextIs, PlayedIs}
-use Rattle.script.specs.Records.{secondAt, endAt, firstOf, secondOf, storeIn, second-length}
+use Rattle.script.specs.Inner.{secondAt, endAt, firstOf, secondOf, storeIn}
+use Rattle.script.specs.Records.{second-length}
 
 -- ---- one record
 -- the request that the bytes have, and what is left after it, by their code
@@ -43,7 +44,8 @@ module _ (c slot file mode : ℕ) (x y rest bs : List ℕ) (e : bs ≡ c ∷ slo
   second-is =
       let a : getD bs 4 0 ≡ length x = ap (λ (l : List ℕ). getD l 4 0) e in
       let n : secondAt bs + 1 ≡ 5 + (length x + 1) = omega arith in
-      ap (λ (k : ℕ). drop k bs) n ∙ sym (drop-drop (length x + 1) 5 bs) ∙ ap (λ (l : List ℕ). drop (length x + 1) (drop 5 l)) e ∙ drop-append-add x (length y ∷ (y ++ rest)) 1
+      ap (λ (k : ℕ). drop k bs) n ∙ sym (drop-drop (length x + 1) 5 bs)
+      ∙ ap (λ (l : List ℕ). drop (length x + 1) (drop 5 l)) e ∙ drop-append-add x (length y ∷ (y ++ rest)) 1
 
   x-is : x ≡ firstOf bs
   x-is = sym (ap (λ (l : List ℕ). firstOf l) e ∙ take-append-seam x (length y ∷ (y ++ rest)))
@@ -53,29 +55,30 @@ module _ (c slot file mode : ℕ) (x y rest bs : List ℕ) (e : bs ≡ c ∷ slo
 
   rest-is : rest ≡ drop (endAt bs) bs
   rest-is =
-      sym
-      (ap (λ (k : ℕ). drop (secondAt bs + 1 + k) bs) (second-length c slot file mode x y rest bs e) ∙ sym (drop-drop (length y) (secondAt bs + 1) bs) ∙ ap (drop (length y)) second-is
-      ∙ drop-append-seam y rest)
+      let z = ap (λ (k : ℕ). drop (secondAt bs + 1 + k) bs) (second-length c slot file mode x y rest bs e) in
+      sym (z ∙ sym (drop-drop (length y) (secondAt bs + 1) bs) ∙ ap (drop (length y)) second-is ∙ drop-append-seam y rest)
 
-reads-request : {bs rest : List ℕ} {q : Request} → Reads bs q rest → q ≡ requestIn (getD bs 0 0) bs
-reads-request a-begin = refl
-reads-request an-end = refl
-reads-request an-ask = refl
-reads-request {rest = rest} (a-change {slot} {file} {mode} {x} {y}) = ap₂ (change slot file mode) (x-is 4 slot file mode x y rest _ refl) (y-is 4 slot file mode x y rest _ refl)
-reads-request {rest = rest} (a-bypass {slot} {file} {mode} {x} {y}) = ap₂ (bypass slot file mode) (x-is 5 slot file mode x y rest _ refl) (y-is 5 slot file mode x y rest _ refl)
+record-request : {bs rest : List ℕ} {q : Request} → IsRecord bs q rest → q ≡ requestIn (getD bs 0 0) bs
+record-request a-begin = refl
+record-request an-end = refl
+record-request an-ask = refl
+record-request {rest = rest} (a-change {slot} {file} {mode} {x} {y}) =
+    ap₂ (change slot file mode) (x-is 4 slot file mode x y rest _ refl) (y-is 4 slot file mode x y rest _ refl)
+record-request {rest = rest} (a-bypass {slot} {file} {mode} {x} {y}) =
+    ap₂ (bypass slot file mode) (x-is 5 slot file mode x y rest _ refl) (y-is 5 slot file mode x y rest _ refl)
 
-reads-rest : {bs rest : List ℕ} {q : Request} → Reads bs q rest → rest ≡ restIn (getD bs 0 0) bs
-reads-rest a-begin = refl
-reads-rest an-end = refl
-reads-rest an-ask = refl
-reads-rest {rest = rest} (a-change {slot} {file} {mode} {x} {y}) = rest-is 4 slot file mode x y rest _ refl
-reads-rest {rest = rest} (a-bypass {slot} {file} {mode} {x} {y}) = rest-is 5 slot file mode x y rest _ refl
+record-rest : {bs rest : List ℕ} {q : Request} → IsRecord bs q rest → rest ≡ restIn (getD bs 0 0) bs
+record-rest a-begin = refl
+record-rest an-end = refl
+record-rest an-ask = refl
+record-rest {rest = rest} (a-change {slot} {file} {mode} {x} {y}) = rest-is 4 slot file mode x y rest _ refl
+record-rest {rest = rest} (a-bypass {slot} {file} {mode} {x} {y}) = rest-is 5 slot file mode x y rest _ refl
 
 -- one record stands at the front, and one rest after it
-pub one-record : {bs r u : List ℕ} {q p : Request} → Reads bs q r → Reads bs p u → (q ≡ p) × (r ≡ u)
-one-record x y = (reads-request x ∙ sym (reads-request y), reads-rest x ∙ sym (reads-rest y))
+pub one-record : {bs r u : List ℕ} {q p : Request} → IsRecord bs q r → IsRecord bs p u → (q ≡ p) × (r ≡ u)
+one-record x y = (record-request x ∙ sym (record-request y), record-rest x ∙ sym (record-rest y))
 
-none-in : {bs r : List ℕ} {q : Request} → Reads bs q r → bs ≡ [] → ⊥
+none-in : {bs r : List ℕ} {q : Request} → IsRecord bs q r → bs ≡ [] → ⊥
 none-in a-begin e = let z = ap length e in omega arith
 none-in an-end e = let z = ap length e in omega arith
 none-in an-ask e = let z = ap length e in omega arith
@@ -97,7 +100,8 @@ one-play (called r w l p) ended = absurd (none-in r refl)
 one-play {s} (called {t = t} {rest = left} {q = o} {a = a} r w l p) (called {t = t₂} {printed = z} {q = o₂} {a = a₂} r₂ w₂ l₂ p₂) =
     let e = one-record r r₂ in
     let d = one-call s t t₂ o o₂ a a₂ w w₂ (e .0) in
-    ap₂ _++_ (same-line l l₂ (d .answer)) (one-play p (subst (λ (u : State). Plays u left z) (sym (d .state)) (subst (λ (u : List ℕ). Plays t₂ u z) (sym (e .1)) p₂)))
+    let z₂ = subst (λ (u : List ℕ). Plays t₂ u z) (sym (e .1)) p₂ in
+    ap₂ _++_ (same-line l l₂ (d .answer)) (one-play p (subst (λ (u : State). Plays u left z) (sym (d .state)) z₂))
 one-play (called r w l p) (cut n none) = absurd (none _ _ r)
 one-play (cut n none) ended = absurd (n refl)
 one-play (cut n none) (called r w l p) = absurd (none _ _ r)

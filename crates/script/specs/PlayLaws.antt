@@ -10,8 +10,8 @@ use Rattle.gate.specs.Effects.{Tells, after}
 use Rattle.script.specs.declared.Played.{Played}
 use Rattle.script.specs.declared.Next.{Next}
 use Rattle.script.specs.declared.Next.the-variants.{Ended, Cut, Whole}
-use Rattle.script.specs.Records.{NoRecord, secondAt, endAt, firstOf, secondOf, Stored}
-use Rattle.script.specs.Playing.{Bounded, NoCall, NextIs, bytesOf, PlayedIs}
+use Rattle.script.specs.Playing.{NoRecord, NoCall, NextIs, bytesOf, PlayedIs}
+use Rattle.script.specs.Inner.{secondAt, endAt, firstOf, secondOf, Stored, Bounded}
 
 module _ (s : State) (bs : List ℕ) (r : Played) (u : Tells s (λ o. NoCall s (o .answer) (o .state)) (r .effect)) where
   pub says-cut : r .next ≡ Cut → 0 < length bs → NoRecord bs → PlayedIs s bs r

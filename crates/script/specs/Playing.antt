@@ -1,7 +1,6 @@
--- What the functions that play a record promise. Definitions only.
+-- What comes of the next record of an input, and what the function that plays it promises. Definitions only.
 use mathlib.Core.Path.{_≡_}
-use mathlib.Core.Bool.{Bool, true, false}
-use mathlib.Core.List.{List, [], _++_}
+use mathlib.Core.List.{List, []}
 use Prim.Native.Nat.{ℕ, _<_, _≤_}
 use lib.ListN.{length, drop}
 use Rattle.answer.specs.declared.Answer.{Answer}
@@ -9,21 +8,15 @@ use Rattle.answer.specs.Numbers.{done}
 use Rattle.answer.specs.Answers.{Is}
 use Rattle.policy.specs.declared.State.{State}
 use Rattle.machine.specs.Machine.{Request, Step}
-use Rattle.lines.specs.Lines.{Line}
 use Rattle.gate.specs.Effects.{Tells}
-use Rattle.script.specs.declared.Told.{Told}
 use Rattle.script.specs.declared.Played.{Played}
 use Rattle.script.specs.declared.Next.{Next}
 use Rattle.script.specs.declared.Next.the-variants.{Ended, Cut, Whole}
-use Rattle.script.specs.Script.{Reads, cutLine, Plays, Filled}
-use Rattle.script.specs.Records.{NoRecord, secondAt, endAt, Stored}
+use Rattle.script.specs.Script.{IsRecord}
 
--- where the two expressions of a record 04 or 05 stand, or that they are not all there
-pub record Bounded (bs : List ℕ) (whole : Bool) (mid end : ℕ) : Type 0 where
-  pub stored : whole ≡ true → Stored bs
-  pub mid-is : whole ≡ true → mid ≡ secondAt bs
-  pub end-is : whole ≡ true → end ≡ endAt bs
-  pub not-stored : whole ≡ false → Stored bs → ⊥
+-- no record stands at the front
+abbrev pub NoRecord : List ℕ → Type 0
+NoRecord bs = (q : Request) (rest : List ℕ) → IsRecord bs q rest → ⊥
 
 -- no call is made: 0 stands for the answer, and the state stays
 pub record NoCall (s : State) (a : Answer) (t : State) : Type 0 where
@@ -35,7 +28,7 @@ pub record NoCall (s : State) (a : Answer) (t : State) : Type 0 where
 abbrev pub NextIs : State → List ℕ → Answer → State → Next → Type 0
 NextIs s bs a t Ended = (bs ≡ []) × NoCall s a t
 NextIs s bs a t Cut = (bs ≡ [] → ⊥) × NoRecord bs × NoCall s a t
-NextIs s bs a t (Whole n) = (q : Request) × Reads bs q (drop n bs) × Step s q a t × (0 < n) × (n ≤ length bs)
+NextIs s bs a t (Whole n) = (q : Request) × IsRecord bs q (drop n bs) × Step s q a t × (0 < n) × (n ≤ length bs)
 
 -- how many bytes the next record has
 abbrev pub bytesOf : Next → ℕ
@@ -46,23 +39,3 @@ bytesOf (Whole n) = n
 -- so the next record was played
 abbrev pub PlayedIs : State → List ℕ → Played → Type 0
 PlayedIs s bs r = Tells s (λ o. NextIs s bs (o .answer) (o .state) (r .next)) (r .effect)
-
--- w was written after what an output holds already, whatever that is
-abbrev pub Puts : List ℕ → List ℕ → ℕ → List ℕ → ℕ → Type 0
-Puts w before n after r = (first held : List ℕ) → Filled held first before n → Filled (held ++ w) first after r
-
--- the line of a was
-abbrev pub PutsLine : Answer → List ℕ → ℕ → List ℕ → ℕ → Type 0
-PutsLine a before n after r = (line : List ℕ) × Line a [] line × Puts line before n after r
-
--- what is printed of the next record, how many bytes it has, and whether the run goes on
-abbrev pub ToldIs : Next → Answer → List ℕ → ℕ → List ℕ → Told → Type 0
-ToldIs Ended a before n after r = (r .more ≡ false) × Puts [] before n after (r .n)
-ToldIs Cut a before n after r = (r .more ≡ false) × Puts cutLine before n after (r .n)
-ToldIs (Whole k) a before n after r = (r .more ≡ true) × (r .used ≡ k) × PutsLine a before n after (r .n)
-
--- from the state s these bytes were played, and what they print was written after what an output holds already
-pub record PlayedOn (s : State) (bytes before : List ℕ) (n : ℕ) (after : List ℕ) (r : ℕ) : Type 0 where
-  pub printed : List ℕ
-  pub plays : Plays s bytes printed
-  pub put : Puts printed before n after r

@@ -12,23 +12,28 @@ use Rattle.image.specs.Image.{expressionBytes}
 use Rattle.machine.specs.Machine.{Request, load, begin, end, ask, change, bypass, Step}
 use Rattle.lines.specs.Lines.{Line}
 
--- a record and what comes after it: 01 slot role; 02 slot; 03 slot file mode; 04 or 05 slot file mode, length byte and bytes, twice (change, bypass)
-pub data Reads : List ℕ → Request → List ℕ → Type 0 where
-  a-begin : {slot role : ℕ} {rest : List ℕ} → Reads (1 ∷ slot ∷ role ∷ rest) (begin slot role) rest
-  an-end : {slot : ℕ} {rest : List ℕ} → Reads (2 ∷ slot ∷ rest) (end slot) rest
-  an-ask : {slot file mode : ℕ} {rest : List ℕ} → Reads (3 ∷ slot ∷ file ∷ mode ∷ rest) (ask slot file mode) rest
-  a-change : {slot file mode : ℕ} {x y rest : List ℕ} → Reads (4 ∷ slot ∷ file ∷ mode ∷ (expressionBytes x ++ (expressionBytes y ++ rest))) (change slot file mode x y) rest
-  a-bypass : {slot file mode : ℕ} {x y rest : List ℕ} → Reads (5 ∷ slot ∷ file ∷ mode ∷ (expressionBytes x ++ (expressionBytes y ++ rest))) (bypass slot file mode x y) rest
+-- the bytes are the record of a request, and what comes after it:
+-- 01 slot role; 02 slot; 03 slot file mode; 04 or 05 slot file mode, length byte and bytes, twice (change, bypass)
+pub data IsRecord : List ℕ → Request → List ℕ → Type 0 where
+  a-begin : {slot role : ℕ} {rest : List ℕ} → IsRecord (1 ∷ slot ∷ role ∷ rest) (begin slot role) rest
+  an-end : {slot : ℕ} {rest : List ℕ} → IsRecord (2 ∷ slot ∷ rest) (end slot) rest
+  an-ask : {slot file mode : ℕ} {rest : List ℕ} → IsRecord (3 ∷ slot ∷ file ∷ mode ∷ rest) (ask slot file mode) rest
+  a-change : {slot file mode : ℕ} {x y rest : List ℕ}
+      → IsRecord (4 ∷ slot ∷ file ∷ mode ∷ (expressionBytes x ++ (expressionBytes y ++ rest))) (change slot file mode x y) rest
+  a-bypass : {slot file mode : ℕ} {x y rest : List ℕ}
+      → IsRecord (5 ∷ slot ∷ file ∷ mode ∷ (expressionBytes x ++ (expressionBytes y ++ rest))) (bypass slot file mode x y) rest
 
 -- `cut` and a line end
 abbrev pub cutLine : List ℕ
 cutLine = 99 ∷ 117 ∷ 116 ∷ 10 ∷ []
 
--- from the state s these bytes print this: per call the number, a space, the place, and a line end; a broken-off or unknown record prints `cut` and stops; input that ends between two records ends the run with no further line
+-- from the state s these bytes print this: per call the number, a space, the place, and a line end; a broken-off or unknown record prints `cut` and
+-- stops; input that ends between two records ends the run with no further line
 pub data Plays : State → List ℕ → List ℕ → Type 0 where
   ended : {s : State} → Plays s [] []
-  called : {s t : State} {bytes rest line printed : List ℕ} {q : Request} {a : Answer} → Reads bytes q rest → Step s q a t → Line a [] line → Plays t rest printed → Plays s bytes (line ++ printed)
-  cut : {s : State} {bytes : List ℕ} → (bytes ≡ [] → ⊥) → ((q : Request) (rest : List ℕ) → Reads bytes q rest → ⊥) → Plays s bytes cutLine
+  called : {s t : State} {bytes rest line printed : List ℕ} {q : Request} {a : Answer}
+      → IsRecord bytes q rest → Step s q a t → Line a [] line → Plays t rest printed → Plays s bytes (line ++ printed)
+  cut : {s : State} {bytes : List ℕ} → (bytes ≡ [] → ⊥) → ((q : Request) (rest : List ℕ) → IsRecord bytes q rest → ⊥) → Plays s bytes cutLine
 
 -- the image: as many bytes as the first two say, low byte first; a short one as far as it goes
 abbrev pub stated : List ℕ → ℕ
@@ -37,7 +42,8 @@ stated input = lowFirst (getD input 0 0) (getD input 1 0)
 abbrev pub imageIn : List ℕ → List ℕ
 imageIn input = take (stated input) (drop 2 input)
 
--- what the whole input prints: under two bytes, `cut`; else the line of the load into the fresh state, and then, where the image was all there, what the records print from the state that the load left
+-- what the whole input prints: under two bytes, `cut`; else the line of the load into the fresh state, and then, where the image was all there, what
+-- the records print from the state that the load left
 pub record Loaded (input printed : List ℕ) : Type 0 where
   pub two : 2 ≤ length input
   pub answer : Answer

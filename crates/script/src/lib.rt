@@ -10,8 +10,8 @@ ghost use lib.ListN.{length, getD, drop};
 ghost use Rattle.gate.specs.Effects.{Tells};
 ghost use Rattle.machine.specs.Machine.{Step};
 ghost use Rattle.script.specs.Script.{Replays};
-ghost use Rattle.script.specs.Records.{storeOf};
-ghost use Rattle.script.specs.Playing.{Bounded, NoCall, PlayedIs, Puts, PutsLine, ToldIs, PlayedOn};
+ghost use Rattle.script.specs.Playing.{NoCall, PlayedIs};
+ghost use Rattle.script.specs.Inner.{storeOf, Bounded, Puts, PutsLine, ToldIs, PlayedOn};
 
 // The codes of the records.
 pub const BEGIN: u8 = 1;

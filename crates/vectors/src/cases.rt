@@ -1,4 +1,5 @@
-// The cases, line by line: a name, a colon, a call's word, and its bytes in hex. A line without a colon is its own name; one with an empty name makes a state and writes nothing; `#` begins a comment.
+// The cases, line by line: a name, a colon, a call's word, and its bytes in hex. A line without a colon is its own name; one with
+// an empty name makes a state and writes nothing; `#` begins a comment.
 use crate::calls;
 use crate::expressions;
 use crate::output::write_answer;
@@ -203,27 +204,13 @@ fn request(s: State, name: &[u8], key: u32, args: &[u8]) -> State {
         return s;
     }
     let at = 4 + arg_wide(args, 3);
+    let x = counted(args, 3);
+    let y = counted(args, at);
     if key == CHANGE {
-        return calls::change(
-            name,
-            s,
-            slot,
-            second,
-            mode,
-            counted(args, 3),
-            counted(args, at),
-        );
+        return calls::change(name, s, slot, second, mode, x, y);
     }
     if key == BYPASS {
-        return calls::bypass(
-            name,
-            s,
-            slot,
-            second,
-            mode,
-            counted(args, 3),
-            counted(args, at),
-        );
+        return calls::bypass(name, s, slot, second, mode, x, y);
     }
     s
 }

@@ -1,4 +1,5 @@
-// Cases by hand, run and compared: standard input has the calls, a line each, and what is written must be crates/vectors/stdout, which was made from the papers and not by this program.
+// Cases by hand, run and compared: standard input has the calls, a line each, and what is written must be crates/vectors/stdout,
+// which was made from the papers and not by this program.
 mod calls;
 mod cases;
 mod expressions;

@@ -45,8 +45,8 @@ returns-5 c =
     let stands = c .before .before .low-first .ensures .0 in
     number-out 2 firstTwo wordAt word-there _ _ _ _ read _ stands (omega arith) (omega arith) (λ v. omega (arith, v .1))
 
-add-t9 : tie.Need-add-t9
-add-t9 c = search needs
+add-t10 : tie.Need-add-t10
+add-t10 c = search needs
 
 returns-6 : tie.Need-returns-6
 returns-6 c =
@@ -69,5 +69,5 @@ read-word-spec =
     low-first-requires
     returns-4
     returns-5
-    add-t9
+    add-t10
     returns-6)

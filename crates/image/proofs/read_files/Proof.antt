@@ -4,7 +4,7 @@ use native.Mathlib.Omega.{arith}
 use borrow.Author.Needs.{zero≤}
 use Rattle.policy.specs.State.{mostFiles, noFile}
 use Rattle.image.specs.Image.{shelf, fileKinds}
-use Rattle.image.specs.Load.{fileOf}
+use Rattle.image.specs.Load.{asFile}
 use Rattle.image.specs.Reading.{RowsRead}
 use Rattle.image.proofs.Rows.{rows-none, rows-more, rows-all}
 use Rattle.image.proofs.read_files.Statement.{statement}
@@ -12,7 +12,7 @@ use Rattle.image.proofs.read_files.Tie as tie
 
 abbrev Inv-loop : tie.InvT-loop
 Inv-loop image count n depth files₀ met₀ i₀ files met i =
-    (i ≤ count) × RowsRead fileOf noFile mostFiles (shelf fileKinds (n - 1) (depth .0)) i image met₀ met files
+    (i ≤ count) × RowsRead asFile noFile mostFiles (shelf fileKinds (n - 1) (depth .0)) i image met₀ met files
 
 abbrev μ-loop : tie.MeasureT-loop
 μ-loop image count n depth files₀ met₀ i₀ files met i = count - i

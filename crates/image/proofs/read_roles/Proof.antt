@@ -4,7 +4,7 @@ use native.Mathlib.Omega.{arith}
 use borrow.Author.Needs.{zero≤}
 use Rattle.policy.specs.State.{mostRoles, noRole}
 use Rattle.image.specs.Image.{shelf, roleKinds}
-use Rattle.image.specs.Load.{roleOf}
+use Rattle.image.specs.Load.{asRole}
 use Rattle.image.specs.Reading.{RowsRead}
 use Rattle.image.proofs.Rows.{rows-none, rows-more, rows-all}
 use Rattle.image.proofs.read_roles.Statement.{statement}
@@ -12,7 +12,7 @@ use Rattle.image.proofs.read_roles.Tie as tie
 
 abbrev Inv-loop : tie.InvT-loop
 Inv-loop image count n depth roles₀ met₀ i₀ roles met i =
-    (i ≤ count) × RowsRead roleOf noRole mostRoles (shelf roleKinds (n - 1) (depth .0)) i image met₀ met roles
+    (i ≤ count) × RowsRead asRole noRole mostRoles (shelf roleKinds (n - 1) (depth .0)) i image met₀ met roles
 
 abbrev μ-loop : tie.MeasureT-loop
 μ-loop image count n depth roles₀ met₀ i₀ roles met i = count - i

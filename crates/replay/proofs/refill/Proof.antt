@@ -57,13 +57,21 @@ read-full-requires : tie.Need-read-full-requires Inv-loop μ-loop
 read-full-requires c κs = search needs
 
 add-result : tie.Need-add-result Inv-loop μ-loop
-add-result c = omega (arith, c .before .before .read-full .ensures .0, c .before .before .read-full .kept .1 .0, rest-length (c .before .before .before .before .before .loop .window) (c .before .before .before .before .before .before .before .args .n - c .before .before .before .before .before .before .before .args .at), c .before .before .before .before .before .before .before .good)
+add-result c =
+    let start = c .before .before .before .before .before .before .before in
+    let full = c .before .before .read-full in
+    let past = rest-length (c .before .before .before .before .before .loop .window) (start .args .n - start .args .at) in
+    omega (arith, full .ensures .0, full .kept .1 .0, past, start .good)
 
 same-length : tie.Need-same-length Inv-loop μ-loop
 same-length c = search needs
 
 returns : tie.Need-returns Inv-loop μ-loop
-returns c = omega (arith, c .before .before .read-full .ensures .0, c .before .before .read-full .kept .1 .0, rest-length (c .before .before .before .before .before .loop .window) (c .before .before .before .before .before .before .before .args .n - c .before .before .before .before .before .before .before .args .at), c .before .before .before .before .before .before .before .good)
+returns c =
+    let start = c .before .before .before .before .before .before .before in
+    let full = c .before .before .read-full in
+    let past = rest-length (c .before .before .before .before .before .loop .window) (start .args .n - start .args .at) in
+    omega (arith, full .ensures .0, full .kept .1 .0, past, start .good)
 
 pub refill-spec : {M : Type 1} → statement M
 refill-spec =

@@ -39,7 +39,10 @@ returns-4 : tie.Need-returns-4
 returns-4 c = search needs
 
 play-store-requires : tie.Need-play-store-requires
-play-store-requires c κs = ⊎-elim (λ w. let e = w .taken in (omega arith, omega arith, omega arith)) (λ w. let e : getD (c .before .before .before .before .before .before .before .args .rest .now) 0 0 ≡ 5 = eqb-true _ 5 (w .1 .taken) in (omega arith, omega arith, omega arith)) (c .if5 .came)
+play-store-requires c κs =
+    let rest = c .before .before .before .before .before .before .before .args .rest .now in
+    ⊎-elim (λ w. let e = w .taken in (omega arith, omega arith, omega arith))
+    (λ w. let e : getD rest 0 0 ≡ 5 = eqb-true _ 5 (w .1 .taken) in (omega arith, omega arith, omega arith)) (c .if5 .came)
 
 returns-5 : tie.Need-returns-5
 returns-5 c = search needs
@@ -48,7 +51,11 @@ uncalled-requires-2 : tie.Need-uncalled-requires-2
 uncalled-requires-2 c κs = search needs
 
 returns-6 : tie.Need-returns-6
-returns-6 c = says-cut _ _ _ (c .uncalled2 .ensures .1) (c .uncalled2 .ensures .0) (omega arith) (no-code _ (c .before .before .before .before .before .if2 .left) (c .before .before .before .before .if3 .left) (c .before .before .before .if4 .left) (c .before .before .if5 .left) (eqb-false _ 5 (c .before .if6 .left)))
+returns-6 c =
+    let past = c .before .before .before in
+    let not-five = eqb-false _ 5 (c .before .if6 .left) in
+    says-cut _ _ _ (c .uncalled2 .ensures .1) (c .uncalled2 .ensures .0) (omega arith)
+    (no-code _ (past .before .before .if2 .left) (past .before .if3 .left) (past .if4 .left) (c .before .before .if5 .left) not-five)
 
 pub play-spec : {M : Type 1} → statement M
 play-spec =

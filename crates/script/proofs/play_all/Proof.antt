@@ -1,11 +1,11 @@
--- `script::play_all` meets its contract: what was printed is written, and what the rest prints comes after it. The measure is what is left of the input. Assumes nothing.
+-- `script::play_all` meets its contract: what was printed is written, and what the rest prints comes after it. The measure is what is left of the
+-- input. Assumes nothing.
 use mathlib.Core.Path.{_≡_}
 use Prim.Native.Nat.{_-_}
 use lib.ListN.{length}
 use borrow.Author.Needs.{needs}
 use native.Mathlib.Omega.{arith}
 use borrow.Author.Tests.{not-true, not-false}
-use Rattle.gate.specs.Effects.{after}
 use Rattle.script.proofs.Going.{Going, going-first, stops, goes}
 use Rattle.script.proofs.play_all.Statement.{statement}
 use Rattle.script.proofs.play_all.Tie as tie
@@ -36,7 +36,9 @@ tell-requires c κs = search needs
 
 same-length : tie.Need-same-length Inv-loop μ-loop
 same-length c =
-    let h : length (c .before .before .before .before .tell .last .0) ≡ length (c .before .before .before .before .before .before .before .before .before .before .before .before .before .args .out .now) = omega (arith, c .before .before .before .before .tell .kept, c .before .before .before .before .before .before .before .before .before .before .loop .inv .long) in
+    let turn = c .before .before .before .before .before .before .before .before .before .before in
+    let tell = c .before .before .before .before .tell in
+    let h : length (tell .last .0) ≡ length (turn .before .before .before .args .out .now) = omega (arith, tell .kept, turn .loop .inv .long) in
     h
 
 returns : tie.Need-returns Inv-loop μ-loop
@@ -44,14 +46,15 @@ returns c =
     let turn = c .before .before .before .before .before .before .before .before .before .before .loop in
     let play = c .before .before .before .before .before .before .before .before .play in
     let tell = c .before .before .before .before .tell in
-    stops _ _ _ _ _ _ _ _ _ (turn .inv) (play .result .effect .answer) (after (turn .s) (play .result .effect)) (tell .last .0) (tell .result) (play .result .next) (play .ensures .is) (tell .ensures) (not-true _ (c .if1 .taken))
+    stops (turn .inv) (play .result) (tell .last .0) (tell .result) (play .ensures) (tell .ensures) (not-true _ (c .if1 .taken))
 
 add-at : tie.Need-add-at Inv-loop μ-loop
 add-at c =
     let turn = c .before .before .before .before .before .before .before .before .before .before .before .loop in
     let play = c .before .before .before .before .before .before .before .before .before .play in
     let tell = c .before .before .before .before .before .tell in
-    let g = goes _ _ _ _ _ _ _ _ _ (turn .inv) (play .result .effect .answer) (after (turn .s) (play .result .effect)) (tell .last .0) (tell .result) (play .result .next) (play .ensures .is) (tell .ensures) (not-false _ (c .before .if1 .left)) (omega (arith, tell .kept)) in
+    let more = not-false _ (c .before .if1 .left) in
+    let g = goes (turn .inv) (play .result) (tell .last .0) (tell .result) (play .ensures) (tell .ensures) more (omega (arith, tell .kept)) in
     omega (arith, g .1 .within, c .before .before .before .before .before .before .before .before .before .before .before .before .before .before .good)
 
 mul-file : tie.Need-mul-file Inv-loop μ-loop
@@ -65,7 +68,8 @@ loop-less c =
     let turn = c .before .before .before .before .before .before .before .before .before .before .before .before .before .loop in
     let play = c .before .before .before .before .before .before .before .before .before .before .before .play in
     let tell = c .before .before .before .before .before .before .before .tell in
-    let g = goes _ _ _ _ _ _ _ _ _ (turn .inv) (play .result .effect .answer) (after (turn .s) (play .result .effect)) (tell .last .0) (tell .result) (play .result .next) (play .ensures .is) (tell .ensures) (not-false _ (c .before .before .before .if1 .left)) (omega (arith, tell .kept)) in
+    let more = not-false _ (c .before .before .before .if1 .left) in
+    let g = goes (turn .inv) (play .result) (tell .last .0) (tell .result) (play .ensures) (tell .ensures) more (omega (arith, tell .kept)) in
     omega (arith, g .0, g .1 .within)
 
 loop-again : tie.Need-loop-again Inv-loop μ-loop
@@ -73,7 +77,8 @@ loop-again c =
     let turn = c .before .before .before .before .before .before .before .before .before .before .before .before .before .loop in
     let play = c .before .before .before .before .before .before .before .before .before .before .before .play in
     let tell = c .before .before .before .before .before .before .before .tell in
-    goes _ _ _ _ _ _ _ _ _ (turn .inv) (play .result .effect .answer) (after (turn .s) (play .result .effect)) (tell .last .0) (tell .result) (play .result .next) (play .ensures .is) (tell .ensures) (not-false _ (c .before .before .before .if1 .left)) (omega (arith, tell .kept)) .1
+    let more = not-false _ (c .before .before .before .if1 .left) in
+    goes (turn .inv) (play .result) (tell .last .0) (tell .result) (play .ensures) (tell .ensures) more (omega (arith, tell .kept)) .1
 
 pub play-all-spec : {M : Type 1} → statement M
 play-all-spec =

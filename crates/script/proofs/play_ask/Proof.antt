@@ -10,7 +10,9 @@ uncalled-requires : tie.Need-uncalled-requires
 uncalled-requires c κs = search needs
 
 returns : tie.Need-returns
-returns c = let p = c .before .before .before .pre in says-cut _ _ _ (c .uncalled .ensures .1) (c .uncalled .ensures .0) (p .0) (ask-cut _ (p .1) (omega arith))
+returns c =
+    let p = c .before .before .before .pre in
+    says-cut _ _ _ (c .uncalled .ensures .1) (c .uncalled .ensures .0) (p .0) (ask-cut _ (p .1) (omega arith))
 
 shared-slice-read-ask : tie.Need-shared-slice-read-ask
 shared-slice-read-ask c = search needs
@@ -25,7 +27,9 @@ ask-requires : tie.Need-ask-requires
 ask-requires c κs = search needs
 
 returns-2 : tie.Need-returns-2
-returns-2 c = let p = c .before .before .before .before .before .before .pre in record { within = c .ask .ensures .within; is = (_, ask-whole _ (p .1) (omega arith), c .ask .ensures .is, omega arith, omega arith) }
+returns-2 c =
+    let p = c .before .before .before .before .before .before .pre in
+    record { within = c .ask .ensures .within; is = (_, ask-whole _ (p .1) (omega arith), c .ask .ensures .is, omega arith, omega arith) }
 
 pub play-ask-spec : {M : Type 1} → statement M
 play-ask-spec =

@@ -10,7 +10,9 @@ uncalled-requires : tie.Need-uncalled-requires
 uncalled-requires c κs = search needs
 
 returns : tie.Need-returns
-returns c = let p = c .before .before .before .pre in says-cut _ _ _ (c .uncalled .ensures .1) (c .uncalled .ensures .0) (p .0) (begin-cut _ (p .1) (omega arith))
+returns c =
+    let p = c .before .before .before .pre in
+    says-cut _ _ _ (c .uncalled .ensures .1) (c .uncalled .ensures .0) (p .0) (begin-cut _ (p .1) (omega arith))
 
 shared-slice-read-begin : tie.Need-shared-slice-read-begin
 shared-slice-read-begin c = search needs
@@ -22,7 +24,9 @@ begin-requires : tie.Need-begin-requires
 begin-requires c κs = search needs
 
 returns-2 : tie.Need-returns-2
-returns-2 c = let p = c .before .before .before .before .before .pre in record { within = c .begin .ensures .within; is = (_, begin-whole _ (p .1) (omega arith), c .begin .ensures .is, omega arith, omega arith) }
+returns-2 c =
+    let p = c .before .before .before .before .before .pre in
+    record { within = c .begin .ensures .within; is = (_, begin-whole _ (p .1) (omega arith), c .begin .ensures .is, omega arith, omega arith) }
 
 pub play-begin-spec : {M : Type 1} → statement M
 play-begin-spec =

@@ -10,7 +10,9 @@ uncalled-requires : tie.Need-uncalled-requires
 uncalled-requires c κs = search needs
 
 returns : tie.Need-returns
-returns c = let p = c .before .before .before .pre in says-cut _ _ _ (c .uncalled .ensures .1) (c .uncalled .ensures .0) (p .0) (end-cut _ (p .1) (omega arith))
+returns c =
+    let p = c .before .before .before .pre in
+    says-cut _ _ _ (c .uncalled .ensures .1) (c .uncalled .ensures .0) (p .0) (end-cut _ (p .1) (omega arith))
 
 shared-slice-read-end : tie.Need-shared-slice-read-end
 shared-slice-read-end c = search needs
@@ -19,7 +21,9 @@ end-requires : tie.Need-end-requires
 end-requires c κs = search needs
 
 returns-2 : tie.Need-returns-2
-returns-2 c = let p = c .before .before .before .before .pre in record { within = c .end .ensures .within; is = (_, end-whole _ (p .1) (omega arith), c .end .ensures .is, omega arith, omega arith) }
+returns-2 c =
+    let p = c .before .before .before .before .pre in
+    record { within = c .end .ensures .within; is = (_, end-whole _ (p .1) (omega arith), c .end .ensures .is, omega arith, omega arith) }
 
 pub play-end-spec : {M : Type 1} → statement M
 play-end-spec =

@@ -5,9 +5,10 @@ use Prim.Native.Nat.{ℕ, _-_}
 use native.Mathlib.Omega.{arith}
 use lib.ListN.{getD, take, drop}
 use borrow.Author.Tests.{not-true, not-false}
-use Rattle.script.specs.Records.{secondOf, storeOf, storeIn, stored-cut, store-whole}
+use Rattle.script.specs.Records.{stored-cut, store-whole}
 use Rattle.gate.specs.Effects.{after}
 use Rattle.machine.specs.Machine.{Step}
+use Rattle.script.specs.Inner.{secondOf, storeOf, storeIn}
 use Rattle.script.specs.PlayLaws.{says-cut, parts}
 use borrow.Author.Needs.{needs}
 use Rattle.script.proofs.play_store.Statement.{statement}
@@ -20,59 +21,90 @@ uncalled-requires : tie.Need-uncalled-requires
 uncalled-requires c κs = search needs
 
 returns : tie.Need-returns
-returns c = let p = c .before .before .before .before .before .pre in says-cut _ _ _ (c .uncalled .ensures .1) (c .uncalled .ensures .0) (p .0) (stored-cut _ (p .1) (c .before .before .before .bounds-in .ensures .not-stored (not-true _ (c .before .if1 .taken))))
+returns c =
+    let p = c .before .before .before .before .before .pre in
+    let none = c .before .before .before .bounds-in .ensures .not-stored (not-true _ (c .before .if1 .taken)) in
+    says-cut _ _ _ (c .uncalled .ensures .1) (c .uncalled .ensures .0) (p .0) (stored-cut _ (p .1) none)
 
 add-from : tie.Need-add-from
-add-from c = let f = parts (c .before .before .bounds-in .ensures) (not-false _ (c .if1 .left)) in omega (arith, f .further, f .all, c .before .before .before .before .good)
+add-from c =
+    let f = parts (c .before .before .bounds-in .ensures) (not-false _ (c .if1 .left)) in
+    omega (arith, f .further, f .all, c .before .before .before .before .good)
 
 shared-slice-read-store : tie.Need-shared-slice-read-store
 shared-slice-read-store c = search needs
 
 shared-slice-read-store-2 : tie.Need-shared-slice-read-store-2
-shared-slice-read-store-2 c = let f = parts (c .before .before .before .before .bounds-in .ensures) (not-false _ (c .before .before .if1 .left)) in omega (arith, f .stored .first)
+shared-slice-read-store-2 c =
+    let d = c .before .before in
+    let f = parts (d .before .before .bounds-in .ensures) (not-false _ (d .if1 .left)) in
+    omega (arith, f .stored .first)
 
 shared-slice-read-store-3 : tie.Need-shared-slice-read-store-3
-shared-slice-read-store-3 c = let f = parts (c .before .before .before .before .before .bounds-in .ensures) (not-false _ (c .before .before .before .if1 .left)) in omega (arith, f .stored .first)
+shared-slice-read-store-3 c =
+    let d = c .before .before .before in
+    let f = parts (d .before .before .bounds-in .ensures) (not-false _ (d .if1 .left)) in
+    omega (arith, f .stored .first)
 
 shared-slice-read-store-4 : tie.Need-shared-slice-read-store-4
-shared-slice-read-store-4 c = let f = parts (c .before .before .before .before .before .before .bounds-in .ensures) (not-false _ (c .before .before .before .before .if1 .left)) in omega (arith, f .stored .first)
+shared-slice-read-store-4 c =
+    let d = c .before .before .before .before in
+    let f = parts (d .before .before .bounds-in .ensures) (not-false _ (d .if1 .left)) in
+    omega (arith, f .stored .first)
 
 sub-store : tie.Need-sub-store
-sub-store c = parts (c .before .before .before .before .before .before .bounds-in .ensures) (not-false _ (c .before .before .before .before .if1 .left)) .low
+sub-store c =
+    let d = c .before .before .before .before in
+    parts (d .before .before .bounds-in .ensures) (not-false _ (d .if1 .left)) .low
 
 part-store-start : tie.Need-part-store-start
-part-store-start c = parts (c .before .before .before .before .before .before .bounds-in .ensures) (not-false _ (c .before .before .before .before .if1 .left)) .low
+part-store-start c =
+    let d = c .before .before .before .before in
+    parts (d .before .before .bounds-in .ensures) (not-false _ (d .if1 .left)) .low
 
 part-store-end : tie.Need-part-store-end
-part-store-end c = let f = parts (c .before .before .before .before .before .before .bounds-in .ensures) (not-false _ (c .before .before .before .before .if1 .left)) in omega (arith, f .further, f .all)
+part-store-end c =
+    let d = c .before .before .before .before in
+    let f = parts (d .before .before .bounds-in .ensures) (not-false _ (d .if1 .left)) in
+    omega (arith, f .further, f .all)
 
 sub-store-2 : tie.Need-sub-store-2
-sub-store-2 c = parts (c .before .before .before .before .before .before .before .bounds-in .ensures) (not-false _ (c .before .before .before .before .before .if1 .left)) .further
+sub-store-2 c =
+    let d = c .before .before .before .before .before in
+    parts (d .before .before .bounds-in .ensures) (not-false _ (d .if1 .left)) .further
 
 part-store-start-2 : tie.Need-part-store-start-2
-part-store-start-2 c = parts (c .before .before .before .before .before .before .before .bounds-in .ensures) (not-false _ (c .before .before .before .before .before .if1 .left)) .further
+part-store-start-2 c =
+    let d = c .before .before .before .before .before in
+    parts (d .before .before .bounds-in .ensures) (not-false _ (d .if1 .left)) .further
 
 part-store-end-2 : tie.Need-part-store-end-2
-part-store-end-2 c = parts (c .before .before .before .before .before .before .before .bounds-in .ensures) (not-false _ (c .before .before .before .before .before .if1 .left)) .all
+part-store-end-2 c =
+    let d = c .before .before .before .before .before in
+    parts (d .before .before .bounds-in .ensures) (not-false _ (d .if1 .left)) .all
 
 store-requires : tie.Need-store-requires
 store-requires c κs = search needs
 
 returns-2 : tie.Need-returns-2
 returns-2 c =
-    let s = c .before .before .before .before .before .before .before .before .before .before .before .args .s in
-    let bs = c .before .before .before .before .before .before .before .before .before .before .before .args .rest .now in
-    let p = c .before .before .before .before .before .before .before .before .before .before .before .pre in
+    let start = c .before .before .before .before .before .before .before .before .before .before .before in
+    let s = start .args .s in
+    let bs = start .args .rest .now in
+    let p = start .pre in
     let found = c .before .before .before .before .before .before .before .before .before .bounds-in .result in
-    let f = parts (c .before .before .before .before .before .before .before .before .before .bounds-in .ensures) (not-false _ (c .before .before .before .before .before .before .before .if1 .left)) in
+    let d = c .before .before .before .before .before .before .before in
+    let f = parts (d .before .before .bounds-in .ensures) (not-false _ (d .if1 .left)) in
     let e = c .store .ensures in
+    let Stores : List ℕ → List ℕ → Type 0 =
+    λ x y. Step s (storeOf (getD bs 0 0) (getD bs 1 0) (getD bs 2 0) (getD bs 3 0) x y) (c .store .result .answer) (after s (c .store .result)) in
     record {
       within = e .within;
       is = (
         storeIn (getD bs 0 0) bs,
         rw (f .end-is) (store-whole bs (f .stored .first) (f .stored .second) (f .stored .all) (getD bs 0 0) refl (p .1) (p .2)),
-        subst (λ (x : List ℕ). Step s (storeOf (getD bs 0 0) (getD bs 1 0) (getD bs 2 0) (getD bs 3 0) x (secondOf bs)) (c .store .result .answer) (after s (c .store .result))) (f .first)
-            (subst (λ (y : List ℕ). Step s (storeOf (getD bs 0 0) (getD bs 1 0) (getD bs 2 0) (getD bs 3 0) (take (found .mid - 5) (drop 5 bs)) y) (c .store .result .answer) (after s (c .store .result))) (f .second) (e .is)),
+        subst (λ (x : List ℕ). Stores x (secondOf bs)) (f .first)
+            (subst (λ (y : List ℕ). Stores (take (found .mid - 5) (drop 5 bs)) y) (f .second) (e .is)),
         omega (arith, f .further),
         f .all,
       );

@@ -6,7 +6,7 @@ use lib.ListN.{length, take}
 use lib.Seq.{take-all}
 use borrow.Author.Needs.{needs}
 use native.Mathlib.Omega.{arith}
-use Rattle.script.specs.Playing.{Puts}
+use Rattle.script.specs.Inner.{Puts}
 use Rattle.script.specs.FillLaws.{puts-none, puts-more}
 use Rattle.script.proofs.put_all.Statement.{statement}
 use Rattle.script.proofs.put_all.Tie as tie
@@ -33,13 +33,20 @@ loop-less : tie.Need-loop-less Inv-loop μ-loop
 loop-less c = omega arith
 
 loop-again : tie.Need-loop-again Inv-loop μ-loop
-loop-again c = (omega arith, search needs, puts-more (c .before .before .before .before .before .before .before .before .before .args .w .now) _ _ _ _ _ _ (c .before .before .before .before .before .before .loop .i) (omega arith) (c .before .before .before .before .before .before .loop .inv .2) (c .before .before .put .ensures))
+loop-again c =
+    let turn = c .before .before .before .before .before .before in
+    let w = turn .before .before .before .args .w .now in
+    (omega arith, search needs, puts-more w _ _ _ _ _ _ (turn .loop .i) (omega arith) (turn .loop .inv .2) (c .before .before .put .ensures))
 
 same-length : tie.Need-same-length Inv-loop μ-loop
 same-length c = search needs
 
 returns : tie.Need-returns Inv-loop μ-loop
-returns c = let v = c .before .loop .inv in subst (λ (l : List ℕ). Puts l (c .before .before .before .before .args .out .now) (c .before .before .before .before .args .n) (c .before .loop .out) (c .before .loop .k)) (take-all (c .before .loop .i) (c .before .before .before .before .args .w .now) (omega arith)) (v .2)
+returns c =
+    let a = c .before .before .before .before .args in
+    let turn = c .before .loop in
+    let all = take-all (turn .i) (a .w .now) (omega arith) in
+    subst (λ (l : List ℕ). Puts l (a .out .now) (a .n) (turn .out) (turn .k)) all (turn .inv .2)
 
 pub put-all-spec : {M : Type 1} → statement M
 put-all-spec =

@@ -1,6 +1,6 @@
 -- `script::run` meets its contract: each way out prints its part of what the input prints. Assumes nothing.
 use mathlib.Core.Path.{_≡_, ap, _∙_}
-use Prim.Native.Nat.{ℕ, _+_, _-_, min}
+use Prim.Native.Nat.{ℕ, _+_, _-_, _≤_, min}
 use lib.ListN.{length}
 use native.Mathlib.Omega.{arith}
 use Rattle.script.proofs.Whole.{only-cut, image-short, image-whole}
@@ -62,12 +62,18 @@ same-length-2 c = search needs
 
 returns-2 : tie.Need-returns-2
 returns-2 c =
-    let i = c .before .before .before .before .before .before .before .before .before .before .before .before .before .before .before .args .input .now in
-    let have = c .before .before .before .before .before .before .before .before .fewer in
-    let fresh = c .before .before .before .before .before .before .before .fresh in
-    let load = c .before .before .before .before .before .load in
-    let e : have .result ≡ min (stated i) (length i - 2) = have .ensures ∙ ap (λ (x : ℕ). min x (length i - 2)) (c .before .before .before .before .before .before .before .before .before .low-first .ensures .0) in
-    image-short i (omega (arith, c .before .before .before .before .before .before .before .before .before .before .before .before .if1 .left)) (2 + have .result) (ap (λ (x : ℕ). 2 + x) e) (fresh .result) (fresh .ensures) (load .result) (load .ensures) _ _ _ (c .before .before .before .put-line .ensures) (omega (arith, c .if2 .taken, c .before .before .before .before .before .before .before .before .before .low-first .ensures .0))
+    let loaded = c .before .before .before .before .before in
+    let read = loaded .before .before .before .before in
+    let start = read .before .before .before .before .before .before in
+    let i = start .args .input .now in
+    let have = loaded .before .before .before .fewer in
+    let fresh = loaded .before .before .fresh in
+    let load = loaded .load in
+    let says = read .low-first .ensures .0 in
+    let two : 2 ≤ length i = omega (arith, read .before .before .before .if1 .left) in
+    let e : have .result ≡ min (stated i) (length i - 2) = have .ensures ∙ ap (λ (x : ℕ). min x (length i - 2)) says in
+    image-short i two (2 + have .result) (ap (λ (x : ℕ). 2 + x) e) (fresh .result) (fresh .ensures) (load .result) (load .ensures) _ _ _
+    (c .before .before .before .put-line .ensures) (omega (arith, c .if2 .taken, says))
 
 play-all-requires : tie.Need-play-all-requires
 play-all-requires c κs = search needs
@@ -77,12 +83,19 @@ same-length-3 c = search needs
 
 returns-3 : tie.Need-returns-3
 returns-3 c =
-    let i = c .before .before .before .before .before .before .before .before .before .before .before .before .before .before .before .before .before .before .before .before .args .input .now in
-    let have = c .before .before .before .before .before .before .before .before .before .before .before .before .before .fewer in
-    let fresh = c .before .before .before .before .before .before .before .before .before .before .before .before .fresh in
-    let load = c .before .before .before .before .before .before .before .before .before .before .load in
-    let e : have .result ≡ min (stated i) (length i - 2) = have .ensures ∙ ap (λ (x : ℕ). min x (length i - 2)) (c .before .before .before .before .before .before .before .before .before .before .before .before .before .before .low-first .ensures .0) in
-    image-whole i (omega (arith, c .before .before .before .before .before .before .before .before .before .before .before .before .before .before .before .before .before .if1 .left)) (2 + have .result) (ap (λ (x : ℕ). 2 + x) e) (fresh .result) (fresh .ensures) (load .result) (load .ensures) _ _ _ (c .before .before .before .before .before .before .before .before .put-line .ensures) _ _ (omega (arith, c .before .before .before .before .before .if2 .left, c .before .before .before .before .before .before .before .before .before .before .before .before .before .before .low-first .ensures .0)) (c .before .before .play-all .ensures)
+    let written = c .before .before .before .before .before in
+    let loaded = written .before .before .before .before .before in
+    let read = loaded .before .before .before .before in
+    let start = read .before .before .before .before .before .before in
+    let i = start .args .input .now in
+    let have = loaded .before .before .before .fewer in
+    let fresh = loaded .before .before .fresh in
+    let load = loaded .load in
+    let says = read .low-first .ensures .0 in
+    let two : 2 ≤ length i = omega (arith, read .before .before .before .if1 .left) in
+    let e : have .result ≡ min (stated i) (length i - 2) = have .ensures ∙ ap (λ (x : ℕ). min x (length i - 2)) says in
+    image-whole i two (2 + have .result) (ap (λ (x : ℕ). 2 + x) e) (fresh .result) (fresh .ensures) (load .result) (load .ensures) _ _ _
+    (written .before .before .before .put-line .ensures) _ _ (omega (arith, written .if2 .left, says)) (c .before .before .play-all .ensures)
 
 pub run-spec : {M : Type 1} → statement M
 run-spec =

@@ -112,7 +112,8 @@ returns c =
     let fs : length (s .files) ≡ mostFiles = sym (length-map (s .files) _) ∙ start .good .0 .1 .1 .1 .1 .1 .1 .0 .1 .0 .1 in
     let roles = walked roleShelves (s .roles) rs (walk .before .before .before .loop .inv .1) (omega arith) in
     let files = walked fileShelves (s .files) fs (walk .before .loop2 .inv .1) (omega arith) in
-    let all = tested s (g .result) t (c .before .before .before .before .before .before .before .counts-fit .ensures) roles files (c .before .before .before .before .before .slots-are .ensures) in
+    let slots = c .before .before .before .before .before in
+    let all = tested s (g .result) t (slots .before .before .counts-fit .ensures) roles files (slots .slots-are .ensures) in
     let held = c .before .before .before .before .role-held .ensures in
     let levels = c .levels-if .ensures in
     record {
