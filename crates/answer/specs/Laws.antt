@@ -11,7 +11,7 @@ use lib.ListN.{length, take, drop, length-append, take-append-drop}
 use lib.Seq.{take-take, take-append-add}
 use Rattle.answer.specs.declared.Answer.{Answer}
 use Rattle.answer.specs.Answers.{Condition, Decides, Granted, Leaves}
-use Rattle.answer.specs.Faults.{Begins, FaultAt}
+use Rattle.answer.specs.Faults.{CanBegin, FaultAt}
 
 -- at most one value has P
 abbrev pub AtMostOne : {S : Type 0} → (S → Type 0) → Type 0
@@ -48,7 +48,7 @@ one-left a made one before x y p q = go (ℕ-discrete (a .number) 0)
 
 module _ (Legal : List ℕ → Type 0) (bytes : List ℕ) where
   -- what begins so begins with less
-  begins-less : (k m : ℕ) → k ≤ m → Begins Legal (take m bytes) → Begins Legal (take k bytes)
+  begins-less : (k m : ℕ) → k ≤ m → CanBegin Legal (take m bytes) → CanBegin Legal (take k bytes)
   begins-less k m h (rest, l) = (
     drop k (take m bytes) ++ rest,
     subst Legal
@@ -89,15 +89,15 @@ fault-after L M front l goes {k} f = record {
   at-end = λ e w. f .at-end (omega (arith, length-append front l)) (goes l .0 w);
 }
   where
-    begins : (j : ℕ) → Begins M (take j l) → Begins L (take (length front + j) (front ++ l))
+    begins : (j : ℕ) → CanBegin M (take j l) → CanBegin L (take (length front + j) (front ++ l))
     begins j (r, m) = (r, rw (take-append-add front l j, append-assoc front (take j l) r) (goes (take j l ++ r) .1 m))
 
-    less : (r : List ℕ) → L (take (length front + k + 1) (front ++ l) ++ r) → Begins M (take (k + 1) l)
+    less : (r : List ℕ) → L (take (length front + k + 1) (front ++ l) ++ r) → CanBegin M (take (k + 1) l)
     less r w =
         let e : length front + k + 1 ≡ length front + (k + 1) = omega arith in
         (r, goes (take (k + 1) l ++ r) .0 (rw (e, take-append-add front l (k + 1), append-assoc front (take (k + 1) l) r) at w))
 
 -- a fault at once: something legal there is, but nothing that begins with the next byte, nor is the end legal
-pub fault-here : (M : List ℕ → Type 0) (l : List ℕ) → Begins M [] → ((x : ℕ) (r t : List ℕ) → l ≡ x ∷ r → M (x ∷ t) → ⊥) → (l ≡ [] → M [] → ⊥) → FaultAt M l 0
+pub fault-here : (M : List ℕ → Type 0) (l : List ℕ) → CanBegin M [] → ((x : ℕ) (r t : List ℕ) → l ≡ x ∷ r → M (x ∷ t) → ⊥) → (l ≡ [] → M [] → ⊥) → FaultAt M l 0
 fault-here M [] b next end = record { within = zero≤; before = b; there = λ h _. absurd (not-suc-le-zero h); at-end = λ _. end refl }
 fault-here M (x ∷ r) b next end = record { within = zero≤; before = b; there = λ _ w. next x r (w .0) refl (w .1); at-end = λ e. absurd (omega arith) }

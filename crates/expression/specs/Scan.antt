@@ -8,7 +8,7 @@ use native.Mathlib.Omega.{arith}
 use borrow.Author.Needs.{zero≤}
 use lib.ListN.{length, take, drop, length-drop}
 use lib.Seq.{take-all}
-use Rattle.answer.specs.Faults.{Begins, FaultAt}
+use Rattle.answer.specs.Faults.{CanBegin, FaultAt}
 use Rattle.answer.specs.Laws.{fault-after, fault-here}
 use Rattle.logic.specs.Iff.{iff-trans}
 use Rattle.expression.specs.declared.Kind.{Kind}
@@ -236,7 +236,7 @@ module _ (kind : Kind) (n d : ℕ) where
     at-end = λ h. ⊎-elim (λ e. absurd (some e)) (f .at-end h);
   }
     where
-      go : (k : ℕ) (w : Begins (Right kind n d) (take (k + 1) (x ∷ l))) → take (k + 1) (x ∷ l) ++ w .0 ≡ [] → ⊥
+      go : (k : ℕ) (w : CanBegin (Right kind n d) (take (k + 1) (x ∷ l))) → take (k + 1) (x ∷ l) ++ w .0 ≡ [] → ⊥
       go k w e = let q : k + 1 ≡ suc k = omega arith in cons-nil (rw q at e)
 
 -- the bytes from `at` on, as the code lends them

@@ -8,7 +8,7 @@ use native.Mathlib.Omega.{arith}
 use lib.ListN.{length, take, drop, length-append, length-take, take-append-drop}
 use lib.Seq.{take-at, take-all, take-append-le, take-append-add, length-take-le}
 use Rattle.answer.specs.Numbers.{endsEarly}
-use Rattle.answer.specs.Faults.{Begins, FaultAt}
+use Rattle.answer.specs.Faults.{CanBegin, FaultAt}
 use Rattle.answer.specs.Laws.{one-fault, no-fault}
 use Rattle.fields.specs.Format.{Early, Number, Refusal, Front, Blamed}
 use Rattle.fields.specs.Means.{Judging, StretchTakes, StretchFaults, Test, WrongTogether, WrongByte}
@@ -105,8 +105,8 @@ module _ (m : ℕ) (Legal : List ℕ → Type 0) where
       let less : take k (l ++ r) ≡ take k l = take-append-le k l r (omega arith) in (
         record {
           within = omega (arith, i, length-append l r);
-          before = subst (Begins Legal) (sym less) (f .before);
-          there = λ o b. f .there i (subst (Begins Legal) more b);
+          before = subst (CanBegin Legal) (sym less) (f .before);
+          there = λ o b. f .there i (subst (CanBegin Legal) more b);
           at-end = λ e. absurd (omega (arith, e, i, length-append l r));
         },
         inl (omega (arith, i, length-append l r)),

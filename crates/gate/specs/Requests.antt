@@ -50,13 +50,17 @@ mediated s slot file mode = must (Mediates s (roleOf s slot) file mode) mediatin
 abbrev pub covered : State → ℕ → ℕ → ℕ → List ℕ → List ℕ → Condition
 covered s slot file mode e g = must (Covers s (roleOf s slot) file mode e g) bypassLacks
 
+-- 17, 8: what every request begins with
+abbrev pub slotConditions : State → ℕ → List Condition
+slotConditions s slot = stateWellFormed s ∷ slotKnown slot ∷ []
+
 -- begin: 17, 8, 10, 11
 abbrev pub beginConditions : State → ℕ → ℕ → List Condition
-beginConditions s slot role = stateWellFormed s ∷ slotKnown slot ∷ slotIsFree s slot ∷ rolePresent s role ∷ []
+beginConditions s slot role = slotConditions s slot ++ (slotIsFree s slot ∷ rolePresent s role ∷ [])
 
 -- 17, 8, 9: what every request by a session begins with
 abbrev pub sessionConditions : State → ℕ → List Condition
-sessionConditions s slot = stateWellFormed s ∷ slotKnown slot ∷ slotIsTaken s slot ∷ []
+sessionConditions s slot = slotConditions s slot ++ (slotIsTaken s slot ∷ [])
 
 -- end: 17, 8, 9
 abbrev pub endConditions : State → ℕ → List Condition

@@ -10,7 +10,7 @@ ghost use lib.ListN.{length, set};
 ghost use Rattle.answer.specs.Answers.{Granted, DecidesAt};
 ghost use Rattle.expression.specs.Bytes.{longest};
 ghost use Rattle.policy.specs.State.{slotCount, IsMode, filePlace};
-ghost use Rattle.gate.specs.Requests.{sessionConditions, rowConditions, storeConditions, beginConditions};
+ghost use Rattle.gate.specs.Requests.{slotConditions, sessionConditions, rowConditions, storeConditions, beginConditions};
 ghost use Rattle.gate.specs.Requests.{askConditions, bypassConditions, Begins, Ends, Asks, Changes, Bypasses};
 ghost use Rattle.gate.specs.Effects.{effectOf, Tells};
 ghost use Rattle.gate.specs.Parts.{Seen, Of, OfAll, StoredIs};
@@ -24,17 +24,28 @@ pub struct Effect {
     pub file: File,
 }
 
-// begin: 17, 8, 10, 11.
-fn begin_answer(seen: Examined, slot: u8, role: u8) -> Answer
-    ensures { λ r. ⌜ OfAll slot seen (λ s. DecidesAt (beginConditions s slot role) 0 r) ⌝ }
+// 17, 8: what every request begins with.
+fn slot_answer(seen: Examined, slot: u8) -> Answer
+    ensures { λ r. ⌜ OfAll slot seen (λ s. DecidesAt (slotConditions s slot) 0 r) × (Granted r → slot < slotCount) ⌝ }
 {
     if !seen.ok {
         return Answer::of(answer::ILL_FORMED);
     }
-    let at = slot as usize;
-    if policy::SLOTS <= at {
+    if policy::SLOTS <= slot as usize {
         return Answer::of(answer::NO_SLOT);
     }
+    Answer::of(answer::DONE)
+}
+
+// begin: 17, 8, 10, 11.
+fn begin_answer(seen: Examined, slot: u8, role: u8) -> Answer
+    ensures { λ r. ⌜ OfAll slot seen (λ s. DecidesAt (beginConditions s slot role) 0 r) ⌝ }
+{
+    let answer = slot_answer(seen, slot);
+    if !answer.granted() {
+        return answer;
+    }
+    let at = slot as usize;
     let slots = seen.slots;
     if !policy::is_free(slots[at]) {
         return Answer::of(answer::SLOT_TAKEN);
@@ -49,13 +60,11 @@ fn begin_answer(seen: Examined, slot: u8, role: u8) -> Answer
 fn session_answer(seen: Examined, slot: u8) -> Answer
     ensures { λ r. ⌜ OfAll slot seen (λ s. DecidesAt (sessionConditions s slot) 0 r) ⌝ }
 {
-    if !seen.ok {
-        return Answer::of(answer::ILL_FORMED);
+    let answer = slot_answer(seen, slot);
+    if !answer.granted() {
+        return answer;
     }
     let at = slot as usize;
-    if policy::SLOTS <= at {
-        return Answer::of(answer::NO_SLOT);
-    }
     let slots = seen.slots;
     if policy::is_free(slots[at]) {
         return Answer::of(answer::SLOT_FREE);

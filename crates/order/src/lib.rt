@@ -131,7 +131,8 @@ fn range_part(rest: &[u8], n: usize, depth: Level) -> Part
     if rest.len() < 2 {
         return stuck(1);
     }
-    if n <= rest[1] as usize {
+    let s = rest[1];
+    if n <= s as usize {
         return stuck(1);
     }
     if rest.len() < 3 {

@@ -33,7 +33,7 @@ fn print(a: Answer) {
 }
 
 // The answer of the next record is printed; a broken-off or unknown one prints `cut` and ends the run.
-fn turn(next: Next, a: Answer) -> Turned
+fn told(next: Next, a: Answer) -> Turned
     ensures { λ r. ⌜ r .used ≡ bytesOf next ⌝ }
 {
     match next {
@@ -118,7 +118,7 @@ fn run(state: State) {
         let next = played.next;
         let effect = played.effect;
         let answer = effect.answer;
-        let turned = turn(next, answer);
+        let turned = told(next, answer);
         from = at + turned.used;
         more = turned.more;
         let slots = effect.slots;

@@ -7,7 +7,7 @@ use native.Mathlib.Numerals.{add-one}
 use native.Mathlib.Omega.{arith}
 use lib.ListN.{length, take, getD}
 use lib.Seq.{take-suc, take-all}
-use Rattle.answer.specs.Faults.{Begins, FaultAt}
+use Rattle.answer.specs.Faults.{CanBegin, FaultAt}
 use Rattle.expression.specs.Expression.{Expr}
 use Rattle.expression.specs.Bytes.{bytes}
 use Rattle.text.specs.Classes.{classOf, value, space}
@@ -19,7 +19,7 @@ use Rattle.text.specs.Sound.{sound}
 
 -- ---- from every state some text goes on to its end
 abbrev Lives : State → Type 0
-Lives t = (u : List ℕ) → Reached u t → Begins Legal u
+Lives t = (u : List ℕ) → Reached u t → CanBegin Legal u
 
 further : (t t′ : State) (x : ℕ) → step t x ≡ some t′ → Lives t′ → Lives t
 further t t′ x e k u r = let (rest, l) = k (u ++ (x ∷ [])) (by-byte x r e) in (x ∷ rest, subst Legal (append-assoc u (x ∷ []) rest) l)

@@ -41,8 +41,8 @@ stuck-requires c κs = search needs
 returns : tie.Need-returns
 returns c = at-securon (c .before .before .before) (c .stuck .ensures .0) (c .stuck .ensures .1) (λ h g. omega arith)
 
-shared-slice-read-if2 : tie.Need-shared-slice-read-if2
-shared-slice-read-if2 c = search needs
+shared-slice-read-s : tie.Need-shared-slice-read-s
+shared-slice-read-s c = search needs
 
 cast-if2 : tie.Need-cast-if2
 cast-if2 c = omega (arith, c .shared-slice-known2 .given 1)
@@ -60,8 +60,8 @@ returns-3 : tie.Need-returns-3
 returns-3 c =
     at-from (c .before .before .before .before .before .before) (c .stuck3 .ensures .0) (c .stuck3 .ensures .1) (omega arith) (omega arith) (λ h g. omega arith)
 
-shared-slice-read-t9 : tie.Need-shared-slice-read-t9
-shared-slice-read-t9 c = search needs
+shared-slice-read-t10 : tie.Need-shared-slice-read-t10
+shared-slice-read-t10 c = search needs
 
 over-requires : tie.Need-over-requires
 over-requires c κs = search needs
@@ -90,8 +90,8 @@ returns-5 c =
     let f = c .before .before in
     at-to (start f) (c .stuck5 .ensures .0) (c .stuck5 .ensures .1) (omega arith) (omega arith) (from-stands f) (λ h g l. omega arith)
 
-shared-slice-read-t9-2 : tie.Need-shared-slice-read-t9-2
-shared-slice-read-t9-2 c = search needs
+shared-slice-read-t10-2 : tie.Need-shared-slice-read-t10-2
+shared-slice-read-t10-2 c = search needs
 
 over-requires-2 : tie.Need-over-requires-2
 over-requires-2 c κs = search needs
@@ -132,19 +132,19 @@ range-part-spec =
     (tie.spec
     stuck-requires
     returns
-    shared-slice-read-if2
+    shared-slice-read-s
     cast-if2
     stuck-requires-2
     returns-2
     stuck-requires-3
     returns-3
-    shared-slice-read-t9
+    shared-slice-read-t10
     over-requires
     stuck-requires-4
     returns-4
     stuck-requires-5
     returns-5
-    shared-slice-read-t9-2
+    shared-slice-read-t10-2
     over-requires-2
     stuck-requires-6
     returns-6
