@@ -13,6 +13,8 @@ ghost use Rattle.expression.specs.Bytes.{longest};
 ghost use Rattle.tree.specs.Tree.{IsTree};
 ghost use Rattle.policy.specs.State.{IsMode, mostRoles, mostFiles, filePlaces, senses, parts, rolePlace, filePlace, noRole, noFile};
 ghost use Rattle.policy.specs.State.{noLevels, freshState, Free, By, heldIn, slotWith, roleIn, putPair};
+ghost use Rattle.shelf.specs.Shelf.{ZeroShelf};
+ghost use Rattle.shelf.specs.Fine.{ShelfFine};
 ghost use Rattle.policy.specs.WellFormed.{Examines};
 ghost use Rattle.policy.specs.Fine.{roleShelves, fileShelves, OneIs, SlotIs, SlotsAre, RoleHeld, TreeFine, TreeExamined};
 
@@ -145,26 +147,56 @@ pub fn held_by(role: u8) -> u16
     role as u16 + 1
 }
 
-// One role: a role that is there is a shelf of privilege expressions, one that is not is zero.
+// A role that is there: a shelf of privilege expressions.
+fn role_fine(r: Role, n: usize, depth: Level) -> bool
+    requires { ⌜ 0 < n ⌝ }
+    ensures { λ x. ⌜ (x ≡ true) ↔ ShelfFine false n (depth .0) (r .lens) (r .bytes) ⌝ }
+{
+    shelf::fine(false, n, depth, &r.lens, &r.bytes)
+}
+
+// A role that is not there. (By itself, so that it is tested where it stands and not taken out first.)
+fn role_zero(r: Role) -> bool
+    ensures { λ x. ⌜ (x ≡ true) ↔ ZeroShelf (r .lens) (r .bytes) ⌝ }
+{
+    shelf::zero(&r.lens, &r.bytes)
+}
+
+// One role: one that is there is fine, one that is not is zero.
 fn role_is(r: Role, used: bool, n: usize, depth: Level) -> bool
     requires { ⌜ 0 < n ⌝ }
     ensures { λ x. ⌜ (x ≡ true) ↔ OneIs roleShelves used n (depth .0) r ⌝ }
 {
     if used {
-        return shelf::fine(false, n, depth, &r.lens, &r.bytes);
+        return role_fine(r, n, depth);
     }
-    shelf::zero(&r.lens, &r.bytes)
+    role_zero(r)
 }
 
-// One file: a file that is there is a shelf with protection expressions at T1 and T2, one that is not is zero.
+// A file that is there: a shelf with protection expressions at T1 and T2.
+fn file_fine(f: File, n: usize, depth: Level) -> bool
+    requires { ⌜ 0 < n ⌝ }
+    ensures { λ x. ⌜ (x ≡ true) ↔ ShelfFine true n (depth .0) (f .lens) (f .bytes) ⌝ }
+{
+    shelf::fine(true, n, depth, &f.lens, &f.bytes)
+}
+
+// A file that is not there. (By itself, so that it is tested where it stands and not taken out first.)
+fn file_zero(f: File) -> bool
+    ensures { λ x. ⌜ (x ≡ true) ↔ ZeroShelf (f .lens) (f .bytes) ⌝ }
+{
+    shelf::zero(&f.lens, &f.bytes)
+}
+
+// One file: one that is there is fine, one that is not is zero.
 fn file_is(f: File, used: bool, n: usize, depth: Level) -> bool
     requires { ⌜ 0 < n ⌝ }
     ensures { λ x. ⌜ (x ≡ true) ↔ OneIs fileShelves used n (depth .0) f ⌝ }
 {
     if used {
-        return shelf::fine(true, n, depth, &f.lens, &f.bytes);
+        return file_fine(f, n, depth);
     }
-    shelf::zero(&f.lens, &f.bytes)
+    file_zero(f)
 }
 
 // A number below `most`: the one that is asked for, where it is one, else 0.

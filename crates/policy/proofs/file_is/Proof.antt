@@ -11,27 +11,27 @@ use borrow.Author.Needs.{needs}
 use Rattle.policy.proofs.file_is.Statement.{statement}
 use Rattle.policy.proofs.file_is.Tie as tie
 
-fine-requires : tie.Need-fine-requires
-fine-requires c κs = search needs
+file-fine-requires : tie.Need-file-fine-requires
+file-fine-requires c κs = search needs
 
 returns : tie.Need-returns
 returns c =
-    let test = c .before .before .before .before .before .before in
-    let x = test .before .args .t1 in
+    let test = c .before in
+    let x = test .before .args .f in
     let places : length (x .lens) ≡ filePlaces = search needs in
     let long : length (x .bytes) ≡ longest * filePlaces = search needs in
-    iff-trans (c .fine .ensures) (one-used fileShelves x (record { lengths = places; room = long }) (test .if1 .taken))
+    iff-trans (c .file-fine .ensures) (one-used fileShelves x (record { lengths = places; room = long }) (test .if1 .taken))
 
-zero-requires : tie.Need-zero-requires
-zero-requires c κs = search needs
+file-zero-requires : tie.Need-file-zero-requires
+file-zero-requires c κs = search needs
 
 returns-2 : tie.Need-returns-2
 returns-2 c =
-    let test = c .before .before .before .before .before .before in
-    let x = test .before .args .t1 in
+    let test = c .before in
+    let x = test .before .args .f in
     let places : length (x .lens) ≡ filePlaces = search needs in
     let long : length (x .bytes) ≡ longest * filePlaces = search needs in
-    iff-trans (c .zero .ensures) (one-unused fileShelves x (record { lengths = places; room = long }) (test .if1 .left))
+    iff-trans (c .file-zero .ensures) (one-unused fileShelves x (record { lengths = places; room = long }) (test .if1 .left))
 
 pub file-is-spec : {M : Type 1} → statement M
-file-is-spec = tie.close (tie.spec fine-requires returns zero-requires returns-2)
+file-is-spec = tie.close (tie.spec file-fine-requires returns file-zero-requires returns-2)

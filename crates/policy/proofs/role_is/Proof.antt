@@ -11,27 +11,27 @@ use borrow.Author.Needs.{needs}
 use Rattle.policy.proofs.role_is.Statement.{statement}
 use Rattle.policy.proofs.role_is.Tie as tie
 
-fine-requires : tie.Need-fine-requires
-fine-requires c κs = search needs
+role-fine-requires : tie.Need-role-fine-requires
+role-fine-requires c κs = search needs
 
 returns : tie.Need-returns
 returns c =
-    let test = c .before .before .before .before .before .before in
-    let x = test .before .args .t1 in
+    let test = c .before in
+    let x = test .before .args .r in
     let places : length (x .lens) ≡ rolePlaces = search needs in
     let long : length (x .bytes) ≡ longest * rolePlaces = search needs in
-    iff-trans (c .fine .ensures) (one-used roleShelves x (record { lengths = places; room = long }) (test .if1 .taken))
+    iff-trans (c .role-fine .ensures) (one-used roleShelves x (record { lengths = places; room = long }) (test .if1 .taken))
 
-zero-requires : tie.Need-zero-requires
-zero-requires c κs = search needs
+role-zero-requires : tie.Need-role-zero-requires
+role-zero-requires c κs = search needs
 
 returns-2 : tie.Need-returns-2
 returns-2 c =
-    let test = c .before .before .before .before .before .before in
-    let x = test .before .args .t1 in
+    let test = c .before in
+    let x = test .before .args .r in
     let places : length (x .lens) ≡ rolePlaces = search needs in
     let long : length (x .bytes) ≡ longest * rolePlaces = search needs in
-    iff-trans (c .zero .ensures) (one-unused roleShelves x (record { lengths = places; room = long }) (test .if1 .left))
+    iff-trans (c .role-zero .ensures) (one-unused roleShelves x (record { lengths = places; room = long }) (test .if1 .left))
 
 pub role-is-spec : {M : Type 1} → statement M
-role-is-spec = tie.close (tie.spec fine-requires returns zero-requires returns-2)
+role-is-spec = tie.close (tie.spec role-fine-requires returns role-zero-requires returns-2)
