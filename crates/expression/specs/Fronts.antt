@@ -1,4 +1,4 @@
--- What a test of the expression at the front of some bytes promises: definitions for the functions inside. Definitions only.
+-- What a test of the expression at the front of some bytes promises, by the functions inside. A device of the proofs.
 use mathlib.Core.Path.{_≡_}
 use mathlib.Core.Bool.{Bool, true}
 use mathlib.Core.List.{List, _++_}

@@ -1,4 +1,4 @@
--- What code that reads a format from a place on tells: the one form of its contracts. Definitions only.
+-- What code that reads a format from a place on tells: the one form of its contracts. A device of the proofs.
 use mathlib.Core.Path.{_≡_}
 use mathlib.Core.List.{List, _++_}
 use mathlib.Core.Logic.{_⊎_}

@@ -9,7 +9,8 @@ use Rattle.answer.specs.declared.Answer.{Answer}
 use Rattle.answer.specs.Answers.{Granted, Is}
 use Rattle.tree.specs.declared.Tree.{Tree}
 use Rattle.tree.specs.Tree.{IsTree, IsDepth}
-use Rattle.tree.specs.Depth.{depthOf, depth-exactly}
+use Rattle.tree.specs.Depth.{depthOf}
+use Rattle.tree.specs.DepthLaws.{depth-exactly}
 use Rattle.expression.specs.declared.Kind.{Kind}
 use Rattle.policy.specs.declared.Role.{Role}
 use Rattle.policy.specs.declared.File.{File}

@@ -9,7 +9,8 @@ use borrow.Author.Tests.{ltb-true, ltb-false}
 use lib.Dec.{ltb}
 use lib.ListN.{length, take, drop, getD, replicate, length-append, length-map, length-replicate, getD-replicate, List·getD-append}
 use lib.Seq.{take-at, drop-append-add, drop-append-seam, drop-drop, getD-at}
-use Rattle.tree.specs.Depth.{depthOf, depth-is}
+use Rattle.tree.specs.Depth.{depthOf}
+use Rattle.tree.specs.DepthLaws.{depth-is}
 use Rattle.expression.specs.declared.Kind.{Kind}
 use Rattle.expression.specs.declared.Kind.the-variants.{Privilege}
 use Rattle.expression.specs.Bytes.{longest, InOrder}

@@ -1,4 +1,4 @@
--- What the readers of an image tell: of the format that each reads, and of what they make of its value. Definitions only.
+-- What the readers of an image tell: of the format that each reads, and of what they make of its value. A device of the proofs.
 use mathlib.Core.Path.{_≡_}
 use mathlib.Core.Bool.{Bool, true, false}
 use mathlib.Core.List.{List, [], map, flatMap}

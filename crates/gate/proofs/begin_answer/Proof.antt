@@ -70,7 +70,8 @@ of-requires-2 c κs = search needs
 returns-3 : tie.Need-returns-3
 returns-3 c = λ file s x.
     let free = c .before .before .before .before .is-free .ensures .0 (not-false _ (c .before .before .before .if2 .left)) in
-    then-next (slotConditions s _) (rest (c .before .before .before .before .before .before .before .before .before) s) _ (passed (c .before .before .before .before .before .before) file s x)
+    let stage = c .before .before .before .before .before .before in
+    then-next (slotConditions s _) (rest (stage .before .before .before) s) _ (passed stage file s x)
     (inr (sym (hold-seen x) ∙ free, inl (refused (λ h. omega (arith, x .nroles-is)) (c .of2 .ensures))))
 
 of-requires-3 : tie.Need-of-requires-3
@@ -79,7 +80,8 @@ of-requires-3 c κs = search needs
 returns-4 : tie.Need-returns-4
 returns-4 c = λ file s x.
     let free = c .before .before .before .before .is-free .ensures .0 (not-false _ (c .before .before .before .if2 .left)) in
-    then-next (slotConditions s _) (rest (c .before .before .before .before .before .before .before .before .before) s) _ (passed (c .before .before .before .before .before .before) file s x)
+    let stage = c .before .before .before .before .before .before in
+    then-next (slotConditions s _) (rest (stage .before .before .before) s) _ (passed stage file s x)
     (inr (sym (hold-seen x) ∙ free, inr (omega (arith, x .nroles-is), granted-here (c .of3 .ensures))))
 
 pub begin-answer-spec : {M : Type 1} → statement M
