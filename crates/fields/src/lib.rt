@@ -6,8 +6,8 @@ use answer::LEFT_OVER;
 ghost use mathlib.Core.Path.{_≡_};
 ghost use Prim.Native.Nat.{_<_, _≤_};
 ghost use lib.ListN.{length};
-ghost use Rattle.fields.specs.Parts.{byte, word, lowFirst, bytes as stretchOf};
-ghost use Rattle.fields.specs.Reading.{ReadsSome, NumberRead, Ends};
+ghost use Rattle.fields.specs.Parts.{byte, word, lowFirst};
+ghost use Rattle.fields.specs.Reading.{NumberRead, Ends};
 
 // What comes of a format that is read from a place on: it is taken, and the next begins at a place; or it is refused, with a number and a place.
 pub enum Met {
@@ -109,22 +109,6 @@ pub fn read_word(bytes: &[u8], from: Met, low: usize, high: usize, number: u8) -
         met: Met::Read(at + 2),
         value,
     }
-}
-
-// So many bytes, whatever they are.
-pub fn read_bytes(bytes: &[u8], from: Met, m: usize) -> Met
-    ensures { λ r. ⌜ ReadsSome (stretchOf m) (now (bytes .entry)) from r ⌝ }
-{
-    let Met::Read(at) = from else {
-        return from;
-    };
-    if bytes.len() < at {
-        return from;
-    }
-    if bytes.len() - at < m {
-        return Met::Refused(ENDS_EARLY, bytes.len());
-    }
-    Met::Read(at + m)
 }
 
 // The answer where nothing is to follow what was read.

@@ -237,7 +237,7 @@ pub fn in_order(b: &[u8], kind: Kind, n: usize, depth: Level) -> bool
 }
 
 // Whether an expression is in order for its kind over a tree; where it is not, its place for 6 with `plus` added.
-pub fn first_fault(tree: Tree, levels: Levels, kind: Kind, plus: usize, b: &[u8]) -> Answer
+fn first_fault(tree: Tree, levels: Levels, kind: Kind, plus: usize, b: &[u8]) -> Answer
     requires { ⌜ Ready tree levels × (plus ≤ second) ⌝ }
     ensures { λ r. ⌜ Decides (inOrder kind tree plus (now (b .entry)) ∷ []) (λ k. k ≡ 0) r ⌝ }
 {

@@ -282,14 +282,14 @@ const CLASS: [u8; 256] = [
 ];
 
 // The table of the classes: a text's reader makes it once, and lends it.
-pub fn table() -> [u8; 256]
+pub(crate) fn table() -> [u8; 256]
     ensures { λ r. ⌜ Tabled r ⌝ }
 {
     CLASS
 }
 
 // The class of a byte, as the table has it.
-pub fn class(t: &[u8], b: u8) -> u8
+pub(crate) fn class(t: &[u8], b: u8) -> u8
     requires { ⌜ Tabled (now t) ⌝ }
     ensures { λ r. ⌜ r ≡ classOf b ⌝ }
 {
