@@ -45,17 +45,17 @@ part-play-end c = omega (arith, c .before .before .topped .ensures .1, c .before
 play-requires : tie.Need-play-requires Inv-loop μ-loop
 play-requires c κs = search needs
 
-turn-requires : tie.Need-turn-requires Inv-loop μ-loop
-turn-requires c κs = search needs
+told-requires : tie.Need-told-requires Inv-loop μ-loop
+told-requires c κs = search needs
 
 add-from : tie.Need-add-from Inv-loop μ-loop
 add-from c =
-    let turn = c .before .turn in
+    let told = c .before .told in
     let play = c .before .before .before .before .play in
     let held = c .before .before .before .before .before .before .before .before .topped in
     let few = few-bytes _ _ (play .result) (play .ensures) in
     let most = take-most (held .result .n - held .result .at) (drop (held .result .at) (held .last .0)) in
-    omega (arith, turn .ensures, few, most, held .ensures .0, held .ensures .1)
+    omega (arith, told .ensures, few, most, held .ensures .0, held .ensures .1)
 
 mul-file : tie.Need-mul-file Inv-loop μ-loop
 mul-file c = omega (arith, c .before .before .before .before .before .before .play .ensures .within)
@@ -71,12 +71,12 @@ loop-less c = search needs
 
 loop-again : tie.Need-loop-again Inv-loop μ-loop
 loop-again c =
-    let turn = c .before .before .before .turn in
+    let told = c .before .before .before .told in
     let play = c .before .before .before .before .before .before .play in
     let held = c .before .before .before .before .before .before .before .before .before .before .topped in
     let few = few-bytes _ _ (play .result) (play .ensures) in
     let most = take-most (held .result .n - held .result .at) (drop (held .result .at) (held .last .0)) in
-    (omega (arith, turn .ensures, few, most, held .ensures .0, held .ensures .1), omega (arith, held .ensures .1), omega (arith, held .kept .0))
+    (omega (arith, told .ensures, few, most, held .ensures .0, held .ensures .1), omega (arith, held .ensures .1), omega (arith, held .kept .0))
 
 returns : tie.Need-returns Inv-loop μ-loop
 returns c = search needs
@@ -98,7 +98,7 @@ run-spec =
     part-play-start
     part-play-end
     play-requires
-    turn-requires
+    told-requires
     add-from
     mul-file
     element-set-from-file
