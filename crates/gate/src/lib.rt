@@ -176,12 +176,12 @@ fn slot_effect(seen: Examined, answer: Answer, slot: usize, with: u16) -> Effect
     requires { ⌜ slot < slotCount ⌝ }
     ensures { λ r. ⌜ r ≡ effectOf answer (set (seen .slots) slot with) (seen .at) (seen .file) ⌝ }
 {
-    let mut slots = seen.slots;
+    let mut held = seen.slots;
     let file = seen.file;
-    slots[slot] = with;
+    held[slot] = with;
     Effect {
         answer,
-        slots,
+        slots: held,
         at: seen.at,
         file,
     }

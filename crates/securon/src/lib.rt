@@ -102,14 +102,14 @@ impl SecuronSet {
     pub fn apart(self, other: SecuronSet) -> bool
         ensures { λ r. ⌜ (r ≡ true) ↔ Apart (marked (self .has)) (marked (other .has)) ⌝ }
     {
-        let mut ok = true;
+        let mut none = true;
         for k in 0..ROOM {
-            if self.has[k] {
-                if other.has[k] {
-                    ok = false;
+            if other.has[k] {
+                if self.has[k] {
+                    none = false;
                 }
             }
         }
-        ok
+        none
     }
 }

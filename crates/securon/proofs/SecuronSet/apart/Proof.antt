@@ -13,10 +13,10 @@ use Rattle.securon.proofs.SecuronSet.apart.Statement.{statement}
 use Rattle.securon.proofs.SecuronSet.apart.Tie as tie
 
 abbrev Inv-loop : tie.InvT-loop
-Inv-loop self other ok₀ k₀ ok k = (k ≤ setRoom) × Flag (λ (u : ℕ). marked (self .has) u → marked (other .has) u → ⊥) k ok
+Inv-loop self other none₀ k₀ none k = (k ≤ setRoom) × Flag (λ (u : ℕ). marked (self .has) u → marked (other .has) u → ⊥) k none
 
 abbrev μ-loop : tie.MeasureT-loop
-μ-loop self other ok₀ k₀ ok k = setRoom - k
+μ-loop self other none₀ k₀ none k = setRoom - k
 
 loop-holds : tie.Need-loop-holds Inv-loop μ-loop
 loop-holds c = (search needs, flag-none _)
@@ -38,10 +38,10 @@ loop-again c =
     let f = c .before .before .before .loop .inv .1 in (
       omega arith,
       ⊎-elim
-          (λ w. rw (w .3) (flag-drop f (λ h. h (w .0 .taken) (w .2 .taken))))
+          (λ w. rw (w .3) (flag-drop f (λ h. h (w .2 .taken) (w .0 .taken))))
           (⊎-elim
-          (λ w. rw (w .3) (flag-keep f (λ m n. false≢true (sym (w .2 .left) ∙ n))))
-          (λ w. rw (w .1) (flag-keep f (λ m n. false≢true (sym (w .0 .left) ∙ m)))))
+          (λ w. rw (w .3) (flag-keep f (λ m n. false≢true (sym (w .2 .left) ∙ m))))
+          (λ w. rw (w .1) (flag-keep f (λ m n. false≢true (sym (w .0 .left) ∙ n)))))
           (c .if1 .came),
     )
 
