@@ -1,19 +1,38 @@
--- Demand 2, in the user's words: "Each answer and each new state is the one that chapter 2 of the toolkit report gives, as paper 01 fixes it:
--- granted exactly when the rules grant, refused with that number exactly when they say so." Assumes nothing.
+-- Demand 2, in the user's words: "Each answer and each new state is the one that chapter 2 of Rabin and Tygar's toolkit report gives, as our first paper
+-- fixes it: granted exactly when the rules grant, refused with that number exactly when they say so. A protection means its full set of sets, also where
+-- nobody could write that set out." Below, each sentence is followed by its theorems. Assumes nothing.
 use mathlib.Core.Path.{_≡_, refl}
 use mathlib.Core.Bool.{true}
 use mathlib.Core.List.{List}
-use mathlib.Core.Logic.{_↔_}
-use Prim.Native.Nat.{ℕ}
+use mathlib.Core.Logic.{_↔_, inl, inr}
+use Prim.Native.Nat.{ℕ, zero, suc, _<_}
+use native.Mathlib.Omega.{arith}
+use lib.ListN.{length}
 use Rattle.answer.specs.declared.Answer.{Answer}
-use Rattle.answer.specs.Answers.{Condition, DecidesAt, Granted, Is, AllHold, FirstFails}
+use Rattle.answer.specs.Answers.{Condition, Decides, Granted, Is, AllHold, FirstFails, Leaves}
+use Rattle.answer.specs.Numbers.{rowNotPassed}
 use Rattle.answer.specs.Laws.{OnePlaceEach}
-use Rattle.policy.specs.State.{Free, By, withHold, withT1T2, withEG}
+use Rattle.answer.specs.Lists.{refuses, granted-exactly, refused-exactly}
+use Rattle.expression.specs.Bytes.{MeetsT1}
+use Rattle.policy.specs.State.{IsMode, read, write, Present, Free, By, withHold, withT1T2, withEG, roleOf, t1Of}
 use Rattle.policy.specs.declared.State.{State}
+use Rattle.image.specs.declared.Loaded.{Loaded}
+use Rattle.image.specs.Image.{Policy, image}
+use Rattle.image.specs.Load.{stateOf, Loads}
+use Rattle.image.specs.Laws as load-laws
+use Rattle.text.specs.Turn.{textConditions, textGrants, textMakes}
+use Rattle.text.specs.Laws.{text-places, granted-right}
+use Rattle.rules.specs.Rules.{Passes, Mediates}
 use Rattle.gate.specs.Requests.{beginConditions, endConditions, askConditions, changeConditions, bypassConditions}
 use Rattle.gate.specs.Requests.{Outcome, Does, Begins, Ends, Asks, Changes, Bypasses}
-use Rattle.answer.specs.Lists.{refuses, granted-exactly, refused-exactly}
+use Rattle.gate.specs.Granted.{SessionGranted, BeginGranted, AskGranted, ChangeGranted, BypassGranted}
 use Rattle.gate.specs.Laws.{begin-places, end-places, ask-places, change-places, bypass-places}
+use Rattle.gate.specs.Laws.{begin-granted, end-granted, ask-granted, change-granted, bypass-granted}
+use Rattle.claims.specs.Needs.{AskNeeds, MayAct, by-reading, by-writing, by-executing, by-detecting, by-changing}
+use Rattle.claims.specs.Needs.{heldPlus, T1Meant, ProtectionsMeant}
+
+-- ---- "Each answer and each new state is the one that chapter 2 .. gives, as our first paper fixes it: granted exactly when the rules grant, refused with
+-- that number exactly when they say so."
 
 -- granted exactly when every condition holds; refused with that number at that place exactly when the first that does not hold has them
 pub record Exactly (cs : List Condition) (a : Answer) : Type 0 where
@@ -26,20 +45,50 @@ pub record ExactlyAnd (cs : List Condition) (made before : State) (r : Outcome) 
   pub after-a-grant : AllHold cs → r .state ≡ made
   pub after-a-refusal : (AllHold cs → ⊥) → r .state ≡ before
 
-exactly : (cs : List Condition) (at : ℕ) (a : Answer) → refuses cs ≡ true → OnePlaceEach cs → DecidesAt cs at a → Exactly cs a
-exactly cs at a r one d = record {
-  granted = granted-exactly (λ k. k ≡ at) a cs r d;
-  refused = λ n k z. refused-exactly (λ k. k ≡ at) a cs one n k z d;
-}
+exactly : (cs : List Condition) (grants : ℕ → Type 0) (a : Answer) → refuses cs ≡ true → OnePlaceEach cs → Decides cs grants a → Exactly cs a
+exactly cs grants a r one d = record { granted = granted-exactly grants a cs r d; refused = λ n k z. refused-exactly grants a cs one n k z d }
 
 exactly-and : (cs : List Condition) (at : ℕ) (made before : State) (r : Outcome) → refuses cs ≡ true → OnePlaceEach cs → Does cs at made before r
     → ExactlyAnd cs made before r
 exactly-and cs at made before r f one d =
-    let x = exactly cs at (r .answer) f one (d .decides) in
+    let x = exactly cs (λ k. k ≡ at) (r .answer) f one (d .decides) in
     record {
       answer = x;
       after-a-grant = λ h. d .leaves .on-grant (x .granted .1 h);
       after-a-refusal = λ n. d .leaves .on-refusal (λ g. n (x .granted .0 g));
+    }
+
+-- load: granted exactly when the bytes are the image of a policy, and then the state is the one that it makes; refused with that number at that place
+-- exactly when the image is refused so, and then the state is the old one
+pub record LoadsExactly (bytes : List ℕ) (before : State) (r : Loaded) : Type 0 where
+  pub granted : Granted (r .answer) ↔ ((p : Policy) × image .Takes bytes p)
+  pub refused : (number place : ℕ) → (number ≡ 0 → ⊥) → Is (r .answer) number place ↔ image .Refuses bytes number place
+  pub after-a-grant : (p : Policy) → image .Takes bytes p → r .state ≡ stateOf p
+  pub after-a-refusal : (number place : ℕ) → image .Refuses bytes number place → r .state ≡ before
+
+pub load-exactly : (bytes : List ℕ) (before : State) (r : Loaded) → Loads bytes before r → LoadsExactly bytes before r
+load-exactly bytes before r l = record {
+  granted = load-laws.granted-exactly bytes before r l;
+  refused = load-laws.refused-exactly bytes before r l;
+  after-a-grant = load-laws.granted-state bytes before r l;
+  after-a-refusal = λ n k f. load-laws.refused-state bytes before r l n k f .1;
+}
+
+-- text: 20, 18, 19; granted, the place is the count of its bytes, and they fill the front of the output; refused, the output is the old one
+pub record TurnsExactly (text before after : List ℕ) (a : Answer) : Type 0 where
+  pub answer : Exactly (textConditions text (length before)) a
+  pub after-a-grant : AllHold (textConditions text (length before)) → textGrants text (a .place) × textMakes text before after
+  pub after-a-refusal : (AllHold (textConditions text (length before)) → ⊥) → after ≡ before
+
+pub text-exactly : (text before after : List ℕ) (a : Answer) → Decides (textConditions text (length before)) (textGrants text) a
+    → Leaves a (textMakes text before) before after → TurnsExactly text before after a
+text-exactly text before after a d l =
+    let cs = textConditions text (length before) in
+    let x = exactly cs (textGrants text) a refl (text-places text (length before)) d in
+    record {
+      answer = x;
+      after-a-grant = λ h. let g = x .granted .1 h in (granted-right text (length before) a d g .1, l .on-grant g);
+      after-a-refusal = λ n. l .on-refusal (λ g. n (x .granted .0 g));
     }
 
 module _ (s : State) (slot : ℕ) where
@@ -65,3 +114,125 @@ module _ (s : State) (slot : ℕ) where
     pub bypass-exactly : (e g : List ℕ) (r : Outcome) → Bypasses s slot file mode e g r
         → ExactlyAnd (bypassConditions s slot file mode e g) (withEG s file mode e g) s r
     bypass-exactly e g r = exactly-and (bypassConditions s slot file mode e g) 0 _ s r refl (bypass-places s slot file mode e g)
+
+-- what a grant needs, by name: of an ask as 01's bullets put it (Needs), of the others as gate/Granted does
+module _ (s : State) (slot : ℕ) (r : Outcome) where
+  pub begin-granted-exactly : (role : ℕ) → Begins s slot role r → Granted (r .answer) ↔ BeginGranted s slot role
+  begin-granted-exactly role d = (
+    begin-granted s slot (r .answer) role (d .decides),
+    λ h. begin-exactly s slot role r d .answer .granted .1 (h .well-formed, (h .known, (h .was-free, (h .present, tt)))),
+  )
+
+  pub end-granted-exactly : Ends s slot r → Granted (r .answer) ↔ SessionGranted s slot
+  end-granted-exactly d = (
+    end-granted s slot (r .answer) (d .decides),
+    λ h. end-exactly s slot r d .answer .granted .1 (h .well-formed, (h .known, (h .taken, tt))),
+  )
+
+  module _ (file mode : ℕ) where
+    pub ask-granted-exactly : Asks s slot file mode r → Granted (r .answer) ↔ AskNeeds s slot file mode
+    ask-granted-exactly d = (λ g. needed mode (ask-granted s slot (r .answer) file mode (d .decides) g), enough)
+      where
+        may : (m : ℕ) → m < 5 → Passes s (roleOf s slot) file m → Mediates s (roleOf s slot) file m → MayAct s slot file m
+        may zero h p q = by-reading (record { passes = p; e-within-m1 = q .e-in-m1 refl; g-within-m2 = q .g-in-m2 refl })
+        may (suc zero) h p q = by-writing (record { passes = p; m1-within-e = q .m1-in-e refl; m2-within-g = q .m2-in-g refl })
+        may (suc (suc zero)) h p q = by-executing p
+        may (suc (suc (suc zero))) h p q = by-detecting p
+        may (suc (suc (suc (suc zero)))) h p q = by-changing p
+        may (suc (suc (suc (suc (suc m))))) h p q = absurd (omega arith)
+
+        needed : (m : ℕ) → AskGranted s slot file m → AskNeeds s slot file m
+        needed m h =
+            let row = h .row in
+            let session = row .session in
+            record {
+              well-formed = session .well-formed;
+              slot-known = session .known;
+              slot-taken = session .taken;
+              file-there = row .present;
+              mode-known = row .is-mode;
+              may = may m (row .is-mode) (row .passes) (h .mediates);
+            }
+
+        other : (m : ℕ) → (m ≡ read → ⊥) → (m ≡ write → ⊥) → Mediates s (roleOf s slot) file m
+        other m nr nw = record {
+          e-in-m1 = λ e. absurd (nr e);
+          g-in-m2 = λ e. absurd (nr e);
+          m1-in-e = λ e. absurd (nw e);
+          m2-in-g = λ e. absurd (nw e);
+        }
+
+        acts : (m : ℕ) → MayAct s slot file m → Passes s (roleOf s slot) file m × Mediates s (roleOf s slot) file m
+        acts m (by-reading h) = (
+          h .passes,
+          record {
+            e-in-m1 = λ _. h .e-within-m1;
+            g-in-m2 = λ _. h .g-within-m2;
+            m1-in-e = λ e. absurd (omega arith);
+            m2-in-g = λ e. absurd (omega arith);
+          },
+        )
+        acts m (by-writing h) = (
+          h .passes,
+          record {
+            e-in-m1 = λ e. absurd (omega arith);
+            g-in-m2 = λ e. absurd (omega arith);
+            m1-in-e = λ _. h .m1-within-e;
+            m2-in-g = λ _. h .m2-within-g;
+          },
+        )
+        acts m (by-executing p) = (p, other m (λ e. omega arith) (λ e. omega arith))
+        acts m (by-detecting p) = (p, other m (λ e. omega arith) (λ e. omega arith))
+        acts m (by-changing p) = (p, other m (λ e. omega arith) (λ e. omega arith))
+
+        enough : AskNeeds s slot file mode → Granted (r .answer)
+        enough h =
+            let (p, q) = acts mode (h .may) in
+            let all : AllHold (askConditions s slot file mode) =
+            (h .well-formed, (h .slot-known, (h .slot-taken, (h .file-there, (h .mode-known, (p, (q, tt))))))) in
+            ask-exactly s slot file mode r d .answer .granted .1 all
+
+    pub change-granted-exactly : (t1 t2 : List ℕ) → Changes s slot file mode t1 t2 r → Granted (r .answer) ↔ ChangeGranted s slot file mode t1 t2
+    change-granted-exactly t1 t2 d = (
+      change-granted s slot (r .answer) file mode t1 t2 (d .decides),
+      λ h.
+          let row = h .row in
+          let ses = row .session in
+          let all : AllHold (changeConditions s slot file mode t1 t2) = (
+            ses .well-formed,
+            (ses .known, (ses .taken, (row .present, (row .is-mode, (row .passes, (h .first, (h .second, tt))))))),
+          ) in
+          change-exactly s slot file mode t1 t2 r d .answer .granted .1 all,
+    )
+
+    pub bypass-granted-exactly : (e g : List ℕ) → Bypasses s slot file mode e g r → Granted (r .answer) ↔ BypassGranted s slot file mode e g
+    bypass-granted-exactly e g d = (
+      bypass-granted s slot (r .answer) file mode e g (d .decides),
+      λ h.
+          let row = h .store .row in
+          let ses = row .session in
+          let all : AllHold (bypassConditions s slot file mode e g) = (
+            ses .well-formed,
+            (ses .known, (ses .taken, (row .present, (row .is-mode, (row .passes, (h .store .first, (h .store .second, (h .covers, tt)))))))),
+          ) in
+          bypass-exactly s slot file mode e g r d .answer .granted .1 all,
+    )
+
+    -- ---- "A protection means its full set of sets, also where nobody could write that set out.": what `ask` grants it grants by some member of T1's value
+    -- and against every member of T2's; and where those fail, all that is tested before them being in order, it refuses with 14
+    passed : Passes s (roleOf s slot) file mode → ProtectionsMeant s slot file mode
+    passed p = record { t1 = first (p .meets-t1); t2 = λ e U q v h. p .not-t2 (e, q, record { chosen = U; in-value = v; held = h }) }
+      where
+        first : MeetsT1 (s .tree) (heldPlus s slot file mode) (t1Of s file mode) → T1Meant s slot file mode
+        first (inl z) = inl z
+        first (inr (e, q, m)) = inr (e, m .chosen, q, m .in-value, m .held)
+
+    pub a-protection-means-its-full-set-of-sets : Asks s slot file mode r → Granted (r .answer) → ProtectionsMeant s slot file mode
+    a-protection-means-its-full-set-of-sets d g = passed (ask-granted s slot (r .answer) file mode (d .decides) g .row .passes)
+
+    pub and-else-the-row-is-not-passed : Asks s slot file mode r → SessionGranted s slot → Present s file → IsMode mode
+        → (ProtectionsMeant s slot file mode → ⊥) → Is (r .answer) rowNotPassed 0
+    and-else-the-row-is-not-passed d h p m n =
+        let first : FirstFails (askConditions s slot file mode) rowNotPassed 0 =
+        inr (h .well-formed, inr (h .known, inr (h .taken, inr (p, inr (m, inl ((λ w. n (passed w)), refl, refl)))))) in
+        ask-exactly s slot file mode r d .answer .refused rowNotPassed 0 (λ z. omega arith) .1 first

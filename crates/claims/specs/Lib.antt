@@ -1,14 +1,9 @@
 pub mod Demand1
 pub mod Demand2
 pub mod Demand3
+pub mod Needs
 pub mod Trace
-pub mod Examples
-pub mod Empty
-pub mod Starred
-pub mod Sound
+pub mod Replayed
 pub mod TraceLaws
 pub mod MoveLaws
-pub mod StarredLaws
-pub mod Builders
-pub mod Sample
-pub mod Steps
+pub mod ReplayedLaws

@@ -1,6 +1,6 @@
 -- Content that moves goes only to files that are as hard to read. Assumes nothing.
 use mathlib.Core.Path.{_≡_, refl, sym, ap, _∙_, subst}
-use mathlib.Core.List.{List, _∷_, _++_}
+use mathlib.Core.List.{List, [], _∷_, _++_, append-assoc}
 use Prim.Native.Nat.{ℕ}
 use native.Mathlib.Omega.{arith}
 use lib.ListN.{getD}
@@ -13,9 +13,12 @@ use Rattle.policy.specs.Whole.{session-holds}
 use Rattle.rules.specs.Rules.{Mediates}
 use Rattle.gate.specs.Granted.{AskGranted}
 use Rattle.gate.specs.Laws.{ask-granted}
-use Rattle.machine.specs.Machine.{Request, ask, Step, Event, Run, next, Grants}
-use Rattle.claims.specs.Trace.{Quiet, Move, ReachedBy, itself, moved, PassesIndelible}
-use Rattle.claims.specs.TraceLaws.{Kept, kept-then, run-keeps, run-holds, run-split, quiet-split}
+use Rattle.machine.specs.Runs.{Grants}
+use Rattle.machine.specs.Machine.{Request, ask, Step, GateEvent, GateRun}
+use Rattle.machine.specs.RunLaws.{cut-at}
+use Rattle.claims.specs.Trace.{Quiet, fileOf, TakesOut, by-read, PutsIn, by-write, Move, Reached, itself, moved}
+use Rattle.claims.specs.Trace.{ReachedInTime, already, moved-on, PassesIndelible}
+use Rattle.claims.specs.TraceLaws.{Kept, kept-then, step-keeps, run-keeps, run-holds, quiet-split}
 
 -- who reads b by its indelible parts holds what a's indelible parts ask: E and G of a's Read row are within those of b's
 pub record Confines (s : State) (a b : ℕ) : Type 0 where
@@ -61,51 +64,91 @@ mediated s p q kp kq role a b r w = record {
       subst (λ (A : Set). A u) (g-same kq b) z;
 }
 
--- a granted ask at the front of a run: what it tells, and the run after it
-pub record Asked (s : State) (slot file mode : ℕ) (es : List Event) (t : State) : Type 0 where
-  pub told : AskGranted s slot file mode
-  pub onward : Run s es t
+-- a granted ask: what it tells, and the state that it leaves
+asked : (e : GateEvent) (t : State) (slot file mode : ℕ) → Step (e .before) (e .request) (e .answer) t → Grants e (ask slot file mode)
+    → AskGranted (e .before) slot file mode × (t ≡ e .before)
+asked e t slot file mode st g =
+    let w = subst (λ (q : Request). Step (e .before) q (e .answer) t) (g .was) st in
+    (ask-granted (e .before) slot (e .answer) file mode (w .decides) (g .granted), w .leaves .on-grant (g .granted))
 
-front : (s t : State) (e : Event) (es : List Event) (slot file mode : ℕ) → Grants e (ask slot file mode) → Run s (e ∷ es) t → Asked s slot file mode es t
-front s t e es slot file mode g (next {m = m} st r) =
-    let w = subst (λ (q : Request). Step s q (e .answer) m) (g .was) st in
-    record {
-      told = ask-granted s slot (e .answer) file mode (w .decides) (g .granted);
-      onward = subst (λ (x : State). Run x es t) (w .leaves .on-grant (g .granted)) r;
-    }
+-- what takes content out, and what puts it in: the session is there, its mediating sets fit, and the state stays
+pub record Passing (e : GateEvent) (t : State) (slot mode : ℕ) : Type 0 where
+  pub held : holdOf (e .before) slot ≡ By (roleOf (e .before) slot)
+  pub mediates : Mediates (e .before) (roleOf (e .before) slot) (fileOf (e .before) (e .request)) mode
+  pub stays : t ≡ e .before
+
+module _ (e : GateEvent) (t : State) (slot : ℕ) (st : Step (e .before) (e .request) (e .answer) t) where
+  passing : (file mode : ℕ) → Grants e (ask slot file mode) → Passing e t slot mode
+  passing file mode g =
+      let (told, stays) = asked e t slot file mode st g in
+      record { held = session-holds (e .before) slot (told .row .session .taken); mediates = rw (g .was) (told .mediates); stays = stays }
+
+  out-passing : TakesOut e slot → Passing e t slot read
+  out-passing (by-read {file} g) = passing file read g
+
+  in-passing : PutsIn e slot → Passing e t slot write
+  in-passing (by-write {file} g) = passing file write g
 
 -- a session that goes on has one role
 pub one-role : (s t : State) (slot : ℕ) → holdOf t slot ≡ By (roleOf s slot) → roleOf t slot ≡ roleOf s slot
 one-role s t slot h = ap roleIn h
 
 -- one move
-pub move-confines : {s t : State} {es : List Event} → Run s es t → Quiet es → {a b : ℕ} → Move es a b → Confines s a b
+pub move-confines : {s t : State} {es : List GateEvent} → GateRun s es t → Quiet es → {a b : ℕ} → Move es a b → Confines s a b
 move-confines {s} {t} {es} r q {a} {b} m =
-    let writing-on = m .writes ∷ m .later in
-    let reading-on = m .reads ∷ (m .between ++ writing-on) in
-    let all = subst (λ (x : List Event). Run s x t) (m .in-order) r in
-    let quiet = subst Quiet (m .in-order) q in
-    let w1 = run-split (m .earlier) (m .begins ∷ (m .opened ++ reading-on)) all in
-    let q1 = quiet-split (m .earlier) (m .begins ∷ (m .opened ++ reading-on)) quiet in
-    let w2 = run-split (m .begins ∷ m .opened) reading-on (w1 .second) in
-    let q2 = quiet-split (m .begins ∷ m .opened) reading-on (q1 .1) in
-    let reading = front (w2 .mid) t (m .reads) (m .between ++ writing-on) (m .slot) a read (m .is-read) (w2 .second) in
-    let w3 = run-split (m .between) writing-on (reading .onward) in
-    let q3 = quiet-split (m .between) writing-on (q2 .1 .1) in
-    let writing = front (w3 .mid) t (m .writes) (m .later) (m .slot) b write (m .is-write) (w3 .second) in
-    let before = kept-then (run-keeps (w1 .first) (q1 .0)) (run-keeps (w2 .first) (q2 .0)) in
-    let after = kept-then before (run-keeps (w3 .first) (q3 .0)) in
-    let role = roleOf (w2 .mid) (m .slot) in
-    let held = session-holds (w2 .mid) (m .slot) (reading .told .row .session .taken) in
-    let still = run-holds (w3 .first) (q3 .0) (m .slot) role (m .not-ended-between) held in
-    let same = one-role (w2 .mid) (w3 .mid) (m .slot) still in
-    let by-same = subst (λ (x : ℕ). Mediates (w3 .mid) x b write) same (writing .told .mediates) in
-    mediated s (w2 .mid) (w3 .mid) before after role a b (reading .told .mediates) by-same
+    let slot = m .slot in
+    let taken = m .takes .before in
+    let onward = m .between ++ (m .puts ∷ m .later) in
+    let c1 = cut-at (m .earlier) (m .takes) onward (subst (λ (x : List GateEvent). GateRun s x t) (m .in-order) r) in
+    let q1 = quiet-split (m .earlier) (m .takes ∷ onward) (subst Quiet (m .in-order) q) in
+    let c2 = cut-at (m .between) (m .puts) (m .later) (c1 .onward) in
+    let q2 = quiet-split (m .between) (m .puts ∷ m .later) (q1 .1 .1) in
+    let out = out-passing (m .takes) (c1 .after) slot (c1 .steps) (m .takes-out) in
+    let into = in-passing (m .puts) (c2 .after) slot (c2 .steps) (m .puts-in) in
+    let before = run-keeps (c1 .first) (q1 .0) in
+    let meanwhile = kept-then (step-keeps (m .takes .answer) (m .takes .request) (c1 .steps) (q1 .1 .0)) (run-keeps (c2 .first) (q2 .0)) in
+    let held = ap (λ (x : State). holdOf x slot) (out .stays) ∙ out .held in
+    let still = run-holds (c2 .first) (q2 .0) slot (roleOf taken slot) (m .not-ended) held in
+    let same = one-role taken (m .puts .before) slot still in
+    let from-a = subst (λ (x : ℕ). Mediates taken (roleOf taken slot) x read) (m .from-a) (out .mediates) in
+    let to-b = subst (λ (x : ℕ). Mediates (m .puts .before) (roleOf (m .puts .before) slot) x write) (m .to-b) (into .mediates) in
+    let by-same = subst (λ (x : ℕ). Mediates (m .puts .before) x b write) same to-b in
+    mediated s taken (m .puts .before) before (kept-then before meanwhile) (roleOf taken slot) a b from-a by-same
 
 -- moves one after another
-pub reached-confines : {s t : State} {es : List Event} → Run s es t → Quiet es → {a k b : ℕ} → ReachedBy es a k b → Confines s a b
+pub reached-confines : {s t : State} {es : List GateEvent} → GateRun s es t → Quiet es → {a b : ℕ} → Reached es a b → Confines s a b
 reached-confines {s} r q {a} itself = confines-itself s a
-reached-confines r q (moved p m h) = confines-then (reached-confines r q p) (move-confines r q m)
+reached-confines r q (moved p m) = confines-then (reached-confines r q p) (move-confines r q m)
+
+-- a move of a part is a move of the whole
+move-wider : (xs ys zs : List GateEvent) {a b : ℕ} → Move ys a b → Move (xs ++ (ys ++ zs)) a b
+move-wider xs ys zs m = record {
+  slot = m .slot;
+  earlier = xs ++ m .earlier;
+  takes = m .takes;
+  between = m .between;
+  puts = m .puts;
+  later = m .later ++ zs;
+  in-order =
+      ap (λ (l : List GateEvent). xs ++ (l ++ zs)) (m .in-order)
+      ∙ ap (xs ++_) (append-assoc (m .earlier) (m .takes ∷ (m .between ++ (m .puts ∷ m .later))) zs)
+      ∙ ap (λ (l : List GateEvent). xs ++ (m .earlier ++ (m .takes ∷ l))) (append-assoc (m .between) (m .puts ∷ m .later) zs)
+      ∙ sym (append-assoc xs (m .earlier) (m .takes ∷ (m .between ++ (m .puts ∷ (m .later ++ zs)))));
+  takes-out = m .takes-out;
+  from-a = m .from-a;
+  puts-in = m .puts-in;
+  to-b = m .to-b;
+  not-ended = m .not-ended;
+}
+
+reached-wider : (xs zs : List GateEvent) {a b : ℕ} → Reached xs a b → Reached (xs ++ zs) a b
+reached-wider xs zs itself = itself
+reached-wider xs zs (moved p m) = moved (reached-wider xs zs p) (move-wider [] xs zs m)
+
+-- what was reached in time was reached
+pub in-time : {es : List GateEvent} {a b : ℕ} → ReachedInTime es a b → Reached es a b
+in-time already = itself
+in-time (moved-on xs ys zs p m) = moved (reached-wider xs (ys ++ zs) (in-time p)) (move-wider xs ys zs m)
 
 -- who passes the last passes the first
 pub passes-first : {s : State} {a b : ℕ} → Confines s a b → (vPlus vMinus m1 m2 : Set) → PassesIndelible s b vPlus vMinus m1 m2
@@ -116,3 +159,21 @@ passes-first c vPlus vMinus m1 m2 p = record {
   e-mediated = λ u h. p .e-mediated u (c .e u h);
   g-mediated = λ u h. p .g-mediated u (c .g u h);
 }
+
+-- the indelible read conditions are the same in two states where E and G of the file's Read row are
+passes-as : {s t : State} (file : ℕ) → SET (t .tree) (eOf t file read) ≡ SET (s .tree) (eOf s file read)
+    → SET (t .tree) (gOf t file read) ≡ SET (s .tree) (gOf s file read) → (vPlus vMinus m1 m2 : Set)
+    → PassesIndelible s file vPlus vMinus m1 m2 → PassesIndelible t file vPlus vMinus m1 m2
+passes-as file e g vPlus vMinus m1 m2 p = record {
+  e-held = λ u h. p .e-held u (subst (λ (A : Set). A u) e h);
+  g-apart = λ u v h. p .g-apart u v (subst (λ (A : Set). A u) g h);
+  e-mediated = λ u h. p .e-mediated u (subst (λ (A : Set). A u) e h);
+  g-mediated = λ u h. p .g-mediated u (subst (λ (A : Set). A u) g h);
+}
+
+module _ {s t : State} (k : Kept s t) (file : ℕ) where
+  pub passes-kept : (vPlus vMinus m1 m2 : Set) → PassesIndelible s file vPlus vMinus m1 m2 → PassesIndelible t file vPlus vMinus m1 m2
+  passes-kept = passes-as file (e-same k file) (g-same k file)
+
+  pub passes-loaded : (vPlus vMinus m1 m2 : Set) → PassesIndelible t file vPlus vMinus m1 m2 → PassesIndelible s file vPlus vMinus m1 m2
+  passes-loaded = passes-as file (sym (e-same k file)) (sym (g-same k file))

@@ -1,14 +1,14 @@
 -- Requests one after another: which files content moves between, and what "nobody passes" means. Definitions only.
 use mathlib.Core.Path.{_≡_}
 use mathlib.Core.List.{List, [], _∷_, _++_}
-use Prim.Native.Nat.{ℕ, _+_, _≤_}
-use lib.ListN.{length}
+use Prim.Native.Nat.{ℕ}
 use Rattle.answer.specs.Answers.{Granted}
 use Rattle.securon.specs.Sets.{Set, _⊆_, Apart}
 use Rattle.expression.specs.Bytes.{SET}
 use Rattle.policy.specs.declared.State.{State}
 use Rattle.policy.specs.State.{read, write, eOf, gOf}
-use Rattle.machine.specs.Machine.{Request, load, begin, end, ask, change, bypass, Event, Grants}
+use Rattle.machine.specs.Runs.{Grants}
+use Rattle.machine.specs.Machine.{Request, load, begin, end, ask, change, bypass, GateEvent}
 
 -- a load or a bypass
 abbrev pub Resets : Request → Type 0
@@ -20,48 +20,57 @@ Resets (change slot file mode t1 t2) = ⊥
 Resets (bypass slot file mode e g) = Unit {0}
 
 -- no load and no bypass is granted in it; refused ones may stand anywhere
-abbrev pub Quiet : List Event → Type 0
+abbrev pub Quiet : List GateEvent → Type 0
 Quiet [] = Unit {0}
 Quiet (e ∷ es) = (Granted (e .answer) → Resets (e .request) → ⊥) × Quiet es
 
 -- no session of that slot ends in it
-abbrev pub NoEnd : ℕ → List Event → Type 0
+abbrev pub NoEnd : ℕ → List GateEvent → Type 0
 NoEnd slot [] = Unit {0}
 NoEnd slot (e ∷ es) = (Grants e (end slot) → ⊥) × NoEnd slot es
 
--- content moves from file a to file b: one session, from its granted begin and before its end, has a granted Read of a and later a granted Write of b
-pub record Move (es : List Event) (a b : ℕ) : Type 0 where
+-- the file that a request is about, by the number that it goes by here: today that of its row, whatever the state that the request met.
+-- (A request about no file has 0, which nothing below looks at)
+abbrev pub fileOf : State → Request → ℕ
+fileOf s (load image) = 0
+fileOf s (begin slot role) = 0
+fileOf s (end slot) = 0
+fileOf s (ask slot file mode) = file
+fileOf s (change slot file mode t1 t2) = file
+fileOf s (bypass slot file mode e g) = file
+
+-- by e the session of that slot takes content out of a file: a granted Read
+pub data TakesOut (e : GateEvent) (slot : ℕ) : Type 0 where
+  by-read : {file : ℕ} → Grants e (ask slot file read) → TakesOut e slot
+
+-- by e the session of that slot puts content into a file: a granted Write
+pub data PutsIn (e : GateEvent) (slot : ℕ) : Type 0 where
+  by-write : {file : ℕ} → Grants e (ask slot file write) → PutsIn e slot
+
+-- content moves from file a to file b: on one slot content is taken out of a, and later, with no end of its session in between, put into b
+pub record Move (es : List GateEvent) (a b : ℕ) : Type 0 where
   pub slot : ℕ
-  pub role : ℕ
-  pub earlier : List Event
-  pub begins : Event
-  pub opened : List Event
-  pub reads : Event
-  pub between : List Event
-  pub writes : Event
-  pub later : List Event
-  pub in-order : es ≡ earlier ++ (begins ∷ (opened ++ (reads ∷ (between ++ (writes ∷ later)))))
-  pub is-begin : Grants begins (begin slot role)
-  pub is-read : Grants reads (ask slot a read)
-  pub is-write : Grants writes (ask slot b write)
-  pub not-ended-before : NoEnd slot opened
-  pub not-ended-between : NoEnd slot between
+  pub earlier : List GateEvent
+  pub takes : GateEvent
+  pub between : List GateEvent
+  pub puts : GateEvent
+  pub later : List GateEvent
+  pub in-order : es ≡ earlier ++ (takes ∷ (between ++ (puts ∷ later)))
+  pub takes-out : TakesOut takes slot
+  pub from-a : fileOf (takes .before) (takes .request) ≡ a
+  pub puts-in : PutsIn puts slot
+  pub to-b : fileOf (puts .before) (puts .request) ≡ b
+  pub not-ended : NoEnd slot between
 
--- how many requests were made before its Read, and up to and with its Write
-abbrev pub readAfter : {es : List Event} {a b : ℕ} → Move es a b → ℕ
-readAfter m = length (m .earlier) + (1 + length (m .opened))
+-- content of a could have moved to b, any number of files long, whatever the moves' order in time. A file reaches itself
+pub data Reached (es : List GateEvent) (a : ℕ) : ℕ → Type 0 where
+  itself : Reached es a a
+  moved : {c b : ℕ} → Reached es a c → Move es c b → Reached es a b
 
-abbrev pub writtenBy : {es : List Event} {a b : ℕ} → Move es a b → ℕ
-writtenBy m = readAfter m + (1 + length (m .between)) + 1
-
--- content of a has reached b once k requests were made: moves lead there in time, each Read after the Write before it. A file reaches itself
-pub data ReachedBy (es : List Event) (a : ℕ) : ℕ → ℕ → Type 0 where
-  itself : {k : ℕ} → ReachedBy es a k a
-  moved : {k c b : ℕ} → ReachedBy es a k c → (m : Move es c b) → k ≤ readAfter m → ReachedBy es a (writtenBy m) b
-
--- content of a could have moved to b, any number of files long
-abbrev pub Reached : List Event → ℕ → ℕ → Type 0
-Reached es a b = (k : ℕ) × ReachedBy es a k b
+-- the same in time: each move begins after the one before it was over
+pub data ReachedInTime : List GateEvent → ℕ → ℕ → Type 0 where
+  already : {es : List GateEvent} {a : ℕ} → ReachedInTime es a a
+  moved-on : {a c b : ℕ} (xs ys zs : List GateEvent) → ReachedInTime xs a c → Move ys c b → ReachedInTime (xs ++ (ys ++ zs)) a b
 
 -- the indelible read conditions of a file, for sets V+, V-, M1, M2 whatever they are: E within V+, G apart from V-, E within M1,
 -- G within M2, for its Read row. Mutable parts have no say

@@ -10,7 +10,8 @@ use Rattle.policy.specs.State.{IsMode, Hold, Free, By, holdOf, eOf, gOf, withHo
 use Rattle.policy.specs.Whole.{free-held}
 use Rattle.policy.specs.Reads.{hold-there, change-keeps}
 use Rattle.gate.specs.Laws.{begin-granted, end-granted, change-granted}
-use Rattle.machine.specs.Machine.{Request, load, begin, end, ask, change, bypass, Step, Event, Run, none, next}
+use Rattle.machine.specs.Runs.{none, next}
+use Rattle.machine.specs.Machine.{Request, load, begin, end, ask, change, bypass, Step, GateEvent, GateRun}
 use Rattle.claims.specs.Trace.{Resets, Quiet, NoEnd}
 
 -- the tree, the roles and every indelible part of t are those of s
@@ -59,7 +60,7 @@ module _ {s t : State} (a : Answer) where
           record { tree = refl; roles = refl; e = λ i m h. c i m h .0; g = λ i m h. c i m h .1 }
   step-keeps (bypass slot file mode x y) st quiet = kept-same (st .leaves .on-refusal (λ g. quiet g tt))
 
-pub run-keeps : {s t : State} {es : List Event} → Run s es t → Quiet es → Kept s t
+pub run-keeps : {s t : State} {es : List GateEvent} → GateRun s es t → Quiet es → Kept s t
 run-keeps none q = kept-same refl
 run-keeps (next {e = e} st r) q = kept-then (step-keeps (e .answer) (e .request) st (q .0)) (run-keeps r (q .1))
 
@@ -88,23 +89,13 @@ module _ (a : Answer) (s t : State) (slot role : ℕ) where
   step-holds (change x file mode p q) st quiet on h = after a (λ x. holdOf x slot ≡ By role) (st .leaves) (λ g. h) h
   step-holds (bypass x file mode p q) st quiet on h = after a (λ x. holdOf x slot ≡ By role) (st .leaves) (λ g. h) h
 
-pub run-holds : {s t : State} {es : List Event} → Run s es t → Quiet es → (slot role : ℕ) → NoEnd slot es → holdOf s slot ≡ By role
+pub run-holds : {s t : State} {es : List GateEvent} → GateRun s es t → Quiet es → (slot role : ℕ) → NoEnd slot es → holdOf s slot ≡ By role
     → holdOf t slot ≡ By role
 run-holds none q slot role on h = h
 run-holds (next {e = e} st r) q slot role on h =
     let held = step-holds (e .answer) _ _ slot role (e .request) st (q .0) (λ g w. on .0 (record { was = w; granted = g })) h in
     run-holds r (q .1) slot role (on .1) held
 
--- a run of two parts is two runs
-pub record Split (s : State) (xs ys : List Event) (t : State) : Type 0 where
-  pub mid : State
-  pub first : Run s xs mid
-  pub second : Run mid ys t
-
-pub run-split : {s t : State} (xs ys : List Event) → Run s (xs ++ ys) t → Split s xs ys t
-run-split {s} [] ys r = record { mid = s; first = none; second = r }
-run-split (x ∷ xs) ys (next st r) = let w = run-split xs ys r in record { mid = w .mid; first = next st (w .first); second = w .second }
-
-pub quiet-split : (xs ys : List Event) → Quiet (xs ++ ys) → Quiet xs × Quiet ys
+pub quiet-split : (xs ys : List GateEvent) → Quiet (xs ++ ys) → Quiet xs × Quiet ys
 quiet-split [] ys q = (tt, q)
 quiet-split (x ∷ xs) ys q = let w = quiet-split xs ys (q .1) in ((q .0, w .0), w .1)

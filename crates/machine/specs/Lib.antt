@@ -1,2 +1,4 @@
+pub mod Runs
 pub mod Machine
+pub mod RunLaws
 pub mod Laws

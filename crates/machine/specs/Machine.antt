@@ -1,12 +1,11 @@
 -- The machine: a request, what it does to a state, and requests one after another. Definitions only.
-use mathlib.Core.Path.{_≡_}
-use mathlib.Core.List.{List, [], _∷_}
+use mathlib.Core.List.{List}
 use Prim.Native.Nat.{ℕ}
 use Rattle.answer.specs.declared.Answer.{Answer}
-use Rattle.answer.specs.Answers.{Granted}
 use Rattle.policy.specs.declared.State.{State}
 use Rattle.image.specs.Load.{Loads}
 use Rattle.gate.specs.Requests.{Begins, Ends, Asks, Changes, Bypasses}
+use Rattle.machine.specs.Runs.{Event, Run}
 
 -- a request with its arguments, whatever they are
 pub data Request : Type 0 where
@@ -26,17 +25,9 @@ Step s (ask slot file mode) a t = Asks s slot file mode (record { answer = a; st
 Step s (change slot file mode t1 t2) a t = Changes s slot file mode t1 t2 (record { answer = a; state = t })
 Step s (bypass slot file mode e g) a t = Bypasses s slot file mode e g (record { answer = a; state = t })
 
--- a request that was made, and its answer
-pub record Event : Type 0 where
-  pub request : Request
-  pub answer : Answer
+-- a request that was made of the gate; requests to it, one after another
+abbrev pub GateEvent : Type 0
+GateEvent = Event State Request
 
--- from s these requests, with these answers, lead to t
-pub data Run : State → List Event → State → Type 0 where
-  none : {s : State} → Run s [] s
-  next : {s m t : State} {e : Event} {es : List Event} → Step s (e .request) (e .answer) m → Run m es t → Run s (e ∷ es) t
-
--- e is the request q, granted
-pub record Grants (e : Event) (q : Request) : Type 0 where
-  pub was : e .request ≡ q
-  pub granted : Granted (e .answer)
+abbrev pub GateRun : State → List GateEvent → State → Type 0
+GateRun = Run Step

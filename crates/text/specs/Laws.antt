@@ -9,7 +9,7 @@ use lib.ListN.{length, take, drop}
 use lib.Seq.{take-all, length-take-le}
 use Rattle.answer.specs.declared.Answer.{Answer}
 use Rattle.answer.specs.Answers.{Decides, Granted, Leaves}
-use Rattle.answer.specs.Laws.{AtMostOne, said, one-answer, one-left, one-fault}
+use Rattle.answer.specs.Laws.{AtMostOne, OnePlaceEach, said, one-answer, one-left, one-fault}
 use Rattle.text.specs.Text.{Legal}
 use Rattle.text.specs.Complete.{one-reading}
 use Rattle.text.specs.Turn.{longestText, TextWrongAt, textConditions, textGrants, textMakes}
@@ -26,11 +26,15 @@ one-count s x y (b, g, p) (c, h, q) = p ∙ ap length (one-reading g h) ∙ sym 
 one-output : (s before : List ℕ) → AtMostOne (textMakes s before)
 one-output s before x y (b, g, p) (c, h, q) = p ∙ ap (λ (z : List ℕ). z ++ drop (length z) before) (one-reading g h) ∙ sym q
 
+-- each refusal of a text names one place
+pub text-places : (s : List ℕ) (room : ℕ) → OnePlaceEach (textConditions s room)
+text-places s room = (said 0, (one-place s, (said 0, tt)))
+
 -- for every text and every output there is one answer
 pub one-text-answer : (s : List ℕ) (room : ℕ) (a b : Answer)
     → Decides (textConditions s room) (textGrants s) a
     → Decides (textConditions s room) (textGrants s) b → a ≡ b
-one-text-answer s room = one-answer (textConditions s room) (textGrants s) (said 0, (one-place s, (said 0, tt))) (one-count s)
+one-text-answer s room = one-answer (textConditions s room) (textGrants s) (text-places s room) (one-count s)
 
 -- and one content of the output after it
 pub one-text-output : (s : List ℕ) (a : Answer) (before x y : List ℕ) → Leaves a (textMakes s before) before x → Leaves a (textMakes s before) before y → x ≡ y
