@@ -4,6 +4,12 @@ pub mod Demand3
 pub mod Needs
 pub mod Trace
 pub mod Replayed
+pub mod Starred
+pub mod Sound
 pub mod TraceLaws
 pub mod MoveLaws
 pub mod ReplayedLaws
+pub mod StarredLaws
+pub mod Steps
+pub mod Sample
+pub mod Examples

@@ -29,7 +29,7 @@ none-counted : (most : ℕ) (F : Format Expressions) → counted most F .Takes (
 unfolding counted
 none-counted most F = (0 ∷ [], [], 0, refl, takes-byte (between 0 most) noCount 0 (zero≤, zero≤), (refl, refl))
 
-smallest-head : head 1 .Takes (83 ∷ 80 ∷ 84 ∷ 1 ∷ 0 ∷ []) 1
+pub smallest-head : head 1 .Takes (83 ∷ 80 ∷ 84 ∷ 1 ∷ 0 ∷ []) 1
 unfolding head
 smallest-head =
     let last = word (between 1 1) noVersion in

@@ -7,3 +7,4 @@ pub mod Made
 pub mod Bounds
 pub mod Laws
 pub mod Examples
+pub mod Written

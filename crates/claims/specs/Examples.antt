@@ -1,0 +1,397 @@
+-- Examples, proved, from the load of the sample's image: the setting of demand 3 is met, with content that moves; sessions have to be told apart; the claim
+-- would be false with the mutable parts in it; and a granted bypass can break it, judged in the loaded state and in the present one. Assumes nothing.
+use mathlib.Core.Path.{_≡_, refl, sym, ap, _∙_, subst}
+use mathlib.Core.List.{List, [], _∷_}
+use mathlib.Core.Logic.{_⊎_, inl, inr, ⊎-elim}
+use Prim.Native.Nat.{ℕ, _<_}
+use lib.Dec.{lit<, lit≤}
+use native.Mathlib.Omega.{arith}
+use Rattle.securon.specs.Sets.{Set, empty, _⊆_}
+use Rattle.tree.specs.declared.Tree.{Tree}
+use Rattle.expression.specs.Expression.{one, term, Meets}
+use Rattle.expression.specs.declared.Kind.the-variants.{Privilege}
+use Rattle.expression.specs.Bytes.{SET, MeetsT1, InOrder}
+use Rattle.expression.specs.Laws.{meets-term}
+use Rattle.expression.specs.Scan.{bytes-some}
+use Rattle.expression.specs.Unique.{one-expression}
+use Rattle.policy.specs.State.{IsMode, read, write, changeProtection, Free, By, roleIn, roleOf, holdOf, freshState}
+use Rattle.policy.specs.State.{withHold, withEG, t1Of, eOf, t2Of, gOf}
+use Rattle.policy.specs.declared.State.{State}
+use Rattle.policy.specs.WellFormed.{WellFormed}
+use Rattle.policy.specs.Whole.{free-held}
+use Rattle.policy.specs.Kept.{by-kept, free-kept, eg-kept}
+use Rattle.policy.specs.Reads.{hold-here}
+use Rattle.rules.specs.Rules.{PassesRow, Passes, Mediates, Covers}
+use Rattle.gate.specs.Granted.{SessionGranted, RowGranted, BypassGranted}
+use Rattle.machine.specs.Runs.{none, next}
+use Rattle.machine.specs.Machine.{load, begin, end, ask, bypass, Step, GateEvent, GateRun}
+use Rattle.claims.specs.Trace.{Quiet, by-read, by-write, Move, PassesIndelible}
+use Rattle.claims.specs.Demand3.{AfterLoad}
+use Rattle.claims.specs.Steps.{granted, done, begin-step, end-step, ask-step, bypass-step}
+use Rattle.claims.specs.MoveLaws.{move-confines}
+use Rattle.claims.specs.Sample.{root, sampleImage, sample, sample-loads, sample-well-formed, sample-depth, sample-root, sample-free, sample-counts}
+use Rattle.claims.specs.Sample.{freed-again, RoleParts, FileParts, sample-role0, sample-role1, sample-role2}
+use Rattle.claims.specs.Sample.{sample-file0, sample-file1, sample-file2, sample-file3}
+use Rattle.claims.specs.Sample.{heldBy, raised, lowered, held-role, held-file, raised-role}
+use Rattle.claims.specs.Sample.{raised-file0, raised-file2, lowered-file0, lowered-file1}
+
+-- who is in the sets of the sample: 0 in {0}, nobody in length 0
+nobody : (t : Tree) (u : ℕ) → SET t [] u → ⊥
+nobody t u (e, q, m) = bytes-some e (sym q)
+
+zero-in : (t : Tree) → SET t root 0
+zero-in t = (term (one 0), refl, refl)
+
+-- a row with all parts empty is passed with whatever is held
+empty-row : (t : Tree) (vPlus vMinus : Set) → PassesRow t vPlus vMinus [] [] [] []
+empty-row t vPlus vMinus = record {
+  meets-t1 = inl refl;
+  has-e = λ u m. absurd (nobody t u m);
+  not-t2 = λ (e, q, m). bytes-some e (sym q);
+  apart-g = λ u v m. nobody t u m;
+}
+
+-- V+ = {0} passes E = {0}, and T1 = {0}
+e-row : (t : Tree) (vMinus : Set) → PassesRow t (SET t root) vMinus [] root [] []
+e-row t vMinus = record { meets-t1 = inl refl; has-e = λ u m. m; not-t2 = λ (e, q, m). bytes-some e (sym q); apart-g = λ u v m. nobody t u m }
+
+t1-row : (t : Tree) (vMinus : Set) → PassesRow t (SET t root) vMinus root [] [] []
+t1-row t vMinus = record {
+  meets-t1 = inr (term (one 0), refl, meets-term t (SET t root) (one 0) .1 (0, refl, zero-in t));
+  has-e = λ u m. absurd (nobody t u m);
+  not-t2 = λ (e, q, m). bytes-some e (sym q);
+  apart-g = λ u v m. nobody t u m;
+}
+
+-- what a role passes by its parts and a file's
+module _ {s : State} {role file : ℕ} {v m b t e : List ℕ} (r : RoleParts s role v m b) (f : FileParts s file t e) where
+  reads-row : PassesRow (s .tree) (SET (s .tree) v) (SET (s .tree) []) t e [] [] → Passes s role file read
+  reads-row p = rw (r .v-plus, r .v-minus, f .t1, f .e, f .t2, f .g) p
+
+  writes-row : Passes s role file write
+  writes-row = rw (r .v-plus-write, r .v-minus-write, f .t1-write, f .e-write, f .t2-write, f .g-write) (empty-row (s .tree) _ _)
+
+  changes-row : Passes s role file changeProtection
+  changes-row = rw (r .v-plus-change, r .v-minus-change, f .t1-change, f .e-change, f .t2-change, f .g-change) (empty-row (s .tree) _ _)
+
+  reads-mediated : SET (s .tree) e ⊆ SET (s .tree) m → Mediates s role file read
+  reads-mediated h = record {
+    e-in-m1 = λ _. rw (r .m1, f .e) h;
+    g-in-m2 = λ _. rw (r .m2, f .g) (λ u x. x);
+    m1-in-e = λ z. absurd (omega arith);
+    m2-in-g = λ z. absurd (omega arith);
+  }
+
+  writes-mediated : SET (s .tree) m ⊆ SET (s .tree) e → Mediates s role file write
+  writes-mediated h = record {
+    e-in-m1 = λ z. absurd (omega arith);
+    g-in-m2 = λ z. absurd (omega arith);
+    m1-in-e = λ _. rw (r .m1, f .e) h;
+    m2-in-g = λ _. rw (r .m2, f .g) (λ u x. x);
+  }
+
+-- a state with four files in which slot 0 is held by the role
+pub record Held (s : State) (role : ℕ) : Type 0 where
+  pub well-formed : WellFormed s
+  pub held : holdOf s 0 ≡ By role
+  pub counted : s .nfiles ≡ 4
+
+module _ {s : State} {role : ℕ} (h : Held s role) where
+  session : SessionGranted s 0
+  session = record { well-formed = h .well-formed; known = lit< tt; taken = λ e. free-held (sym e ∙ h .held) }
+
+  its : (P : ℕ → Type 0) → P role → P (roleOf s 0)
+  its P p = subst P (sym (ap roleIn (h .held))) p
+
+  module _ (file : ℕ) (few : file < 4) where
+    row : (mode judged : ℕ) → IsMode mode → Passes s role file judged → RowGranted s 0 file mode judged
+    row mode judged m p = record {
+      session = session;
+      present = rw (h .counted) few;
+      is-mode = m;
+      passes = its (λ r. Passes s r file judged) p;
+    }
+
+    asked : (mode : ℕ) → IsMode mode → Passes s role file mode → Mediates s role file mode → Step s (ask 0 file mode) granted s
+    asked mode m p q = ask-step s 0 file mode (record { row = row mode mode m p; mediates = its (λ r. Mediates s r file mode) q })
+
+    module _ {v m b t e : List ℕ} (r : RoleParts s role v m b) (f : FileParts s file t e) where
+      asked-read : PassesRow (s .tree) (SET (s .tree) v) (SET (s .tree) []) t e [] [] → SET (s .tree) e ⊆ SET (s .tree) m
+          → Step s (ask 0 file read) granted s
+      asked-read p q = asked read (lit< tt) (reads-row r f p) (reads-mediated r f q)
+
+      asked-write : SET (s .tree) m ⊆ SET (s .tree) e → Step s (ask 0 file write) granted s
+      asked-write q = asked write (lit< tt) (writes-row r f) (writes-mediated r f q)
+
+-- the sample held by one of its roles
+held-is : (role : ℕ) → role < 3 → Held (heldBy role) role
+held-is role h = record {
+  well-formed = by-kept sample sample-well-formed 0 role (lit< tt) (rw (sample-counts .0) h);
+  held = hold-here sample (sample-well-formed .room) 0 (By role) (lit< tt);
+  counted = sample-counts .1;
+}
+
+begun : (role : ℕ) → role < 3 → Step sample (begin 0 role) granted (heldBy role)
+begun role h = begin-step sample 0 sample-well-formed (lit< tt) role sample-free (rw (sample-counts .0) h)
+
+-- who has nothing
+abbrev pub PassesWithNothing : State → ℕ → Type 0
+PassesWithNothing s file = PassesIndelible s file empty empty empty empty
+
+-- nothing passes a file with no indelible part, and no file with E = {0}
+passes-empty : (s : State) (file : ℕ) → eOf s file read ≡ [] → gOf s file read ≡ [] → PassesWithNothing s file
+passes-empty s file e g = record {
+  e-held = λ u m. nobody (s .tree) u (rw e at m);
+  g-apart = λ u v m. v;
+  e-mediated = λ u m. nobody (s .tree) u (rw e at m);
+  g-mediated = λ u m. nobody (s .tree) u (rw g at m);
+}
+
+fails-root : (s : State) (file : ℕ) → eOf s file read ≡ root → PassesWithNothing s file → ⊥
+fails-root s file e p = p .e-held 0 (rw e (zero-in (s .tree)))
+
+-- after the load of the sample's image
+after-load : {t : State} {es : List GateEvent} → GateRun sample es t → Quiet es → AfterLoad sample t es
+after-load r q = record {
+  before = freshState;
+  image = sampleImage;
+  answer = granted;
+  loads = sample-loads;
+  granted = refl;
+  then = r;
+  quiet = q;
+}
+
+-- a session of that role reads a and then writes b, and then come other requests
+abbrev pub readThenWrite : ℕ → ℕ → ℕ → List GateEvent → List GateEvent
+readThenWrite role a b later = done sample (begin 0 role) ∷ done (heldBy role) (ask 0 a read) ∷ done (heldBy role) (ask 0 b write) ∷ later
+
+read-then-write-moves : (role a b : ℕ) (later : List GateEvent) → Move (readThenWrite role a b later) a b
+read-then-write-moves role a b later = record {
+  slot = 0;
+  earlier = done sample (begin 0 role) ∷ [];
+  takes = done (heldBy role) (ask 0 a read);
+  between = [];
+  puts = done (heldBy role) (ask 0 b write);
+  later = later;
+  in-order = refl;
+  takes-out = by-read (record { was = refl; granted = refl });
+  from-a = refl;
+  puts-in = by-write (record { was = refl; granted = refl });
+  to-b = refl;
+  not-ended = tt;
+}
+
+-- ---- 1. The setting of demand 3 is met, and content moves in it: from file 0 to file 1, both with E = {0}
+abbrev pub oneMove : List GateEvent
+oneMove = readThenWrite 0 0 1 []
+
+then-run : (later : List GateEvent) (t : State) → GateRun (heldBy 0) later t → GateRun sample (readThenWrite 0 0 1 later) t
+then-run later t r =
+    let h = held-is 0 (lit< tt) in
+    let role = held-role 0 sample-role0 in
+    next (begun 0 (lit< tt))
+    (next (asked-read h 0 (lit< tt) role (held-file 0 sample-file0) (e-row _ _) (λ u x. x))
+    (next (asked-write h 1 (lit< tt) role (held-file 0 sample-file1) (λ u x. x))
+    r))
+
+pub record ContentMovesAfterALoad : Type 0 where
+  pub after : AfterLoad sample (heldBy 0) oneMove
+  pub moved : Move oneMove 0 1
+
+pub content-moves-after-a-load : ContentMovesAfterALoad
+content-moves-after-a-load = record {
+  after = after-load (then-run [] (heldBy 0) none) ((λ g r. r), ((λ g r. r), ((λ g r. r), tt)));
+  moved = read-then-write-moves 0 0 1 [];
+}
+
+-- ---- 2. Sessions have to be told apart: slot 0's old session read file 0, and its new session writes file 2
+abbrev pub ended : State
+ended = withHold (heldBy 0) 0 Free
+
+abbrev pub twoSessions : List GateEvent
+twoSessions =
+    done sample (begin 0 0)
+    ∷ done (heldBy 0) (ask 0 0 read)
+    ∷ done (heldBy 0) (end 0)
+    ∷ done ended (begin 0 1)
+    ∷ done (heldBy 1) (ask 0 2 write)
+    ∷ []
+
+pub record OldSessionsReadIsNotTheNewOnes : Type 0 where
+  pub after : AfterLoad sample (heldBy 1) twoSessions
+  pub not-moved : Move twoSessions 0 2 → ⊥
+  pub last-passed : PassesWithNothing sample 2
+  pub first-not-passed : PassesWithNothing sample 0 → ⊥
+
+two-sessions-run : GateRun sample twoSessions (heldBy 1)
+two-sessions-run =
+    let h = held-is 0 (lit< tt) in
+    let still = free-kept (heldBy 0) (h .well-formed) 0 (lit< tt) in
+    let free = hold-here (heldBy 0) (h .well-formed .room) 0 Free (lit< tt) in
+    let again = begin-step ended 0 still (lit< tt) 1 free (rw (sample-counts .0) (lit< tt)) in
+    next (begun 0 (lit< tt))
+    (next (asked-read h 0 (lit< tt) (held-role 0 sample-role0) (held-file 0 sample-file0) (e-row _ _) (λ u x. x))
+    (next (end-step (heldBy 0) 0 (session h))
+    (next (subst (Step ended (begin 0 1) granted) (freed-again 0 1) again)
+    (next (asked-write (held-is 1 (lit< tt)) 2 (lit< tt) (held-role 1 sample-role1) (held-file 1 sample-file2) (λ u x. x))
+    none))))
+
+pub sessions-are-told-apart : OldSessionsReadIsNotTheNewOnes
+sessions-are-told-apart =
+    let quiet : Quiet twoSessions = ((λ g r. r), ((λ g r. r), ((λ g r. r), ((λ g r. r), ((λ g r. r), tt))))) in
+    record {
+      after = after-load two-sessions-run quiet;
+      not-moved = λ m.
+          let c = move-confines two-sessions-run quiet m in
+          nobody (sample .tree) 0 (rw (sample-file2 .e) at (c .e 0 (rw (sample-file0 .e) (zero-in (sample .tree)))));
+      last-passed = passes-empty sample 2 (sample-file2 .e) (sample-file2 .g);
+      first-not-passed = fails-root sample 0 (sample-file0 .e);
+    }
+
+-- ---- 3. With the mutable parts the claim would be false: content moves from file 3, whose T1 asks for {0}, to file 2, which nobody needs anything to read
+-- the whole Read row of a file, mutable parts included, is passed with these sets
+abbrev pub PassesReadRow : State → ℕ → Set → Set → Type 0
+PassesReadRow s file vPlus vMinus = PassesRow (s .tree) vPlus vMinus (t1Of s file read) (eOf s file read) (t2Of s file read) (gOf s file read)
+
+pub record MutablePartsWouldBreakIt : Type 0 where
+  pub after : AfterLoad sample (heldBy 2) (readThenWrite 2 3 2 [])
+  pub moved : Move (readThenWrite 2 3 2 []) 3 2
+  pub last-passed : PassesReadRow sample 2 empty empty
+  pub first-not-passed : PassesReadRow sample 3 empty empty → ⊥
+
+pub mutable-parts-have-no-say : MutablePartsWouldBreakIt
+mutable-parts-have-no-say =
+    let h = held-is 2 (lit< tt) in
+    let role = held-role 2 sample-role2 in
+    let run =
+    next (begun 2 (lit< tt))
+    (next (asked-read h 3 (lit< tt) role (held-file 2 sample-file3) (t1-row _ _) (λ u x. x))
+    (next (asked-write h 2 (lit< tt) role (held-file 2 sample-file2) (λ u x. x))
+    none)) in
+    record {
+      after = after-load run ((λ g r. r), ((λ g r. r), ((λ g r. r), tt)));
+      moved = read-then-write-moves 2 3 2 [];
+      last-passed = rw (sample-file2 .t1, sample-file2 .e, sample-file2 .t2, sample-file2 .g) (empty-row (sample .tree) empty empty);
+      first-not-passed = λ p. unmet (rw (sample-file3 .t1) at (p .meets-t1));
+    }
+  where
+    unmet : MeetsT1 (sample .tree) empty root → ⊥
+    unmet (inl q) = bytes-some (term (one 0)) q
+    unmet (inr (e, q, m)) =
+        let same = one-expression e (term (one 0)) (sym q) in
+        meets-term (sample .tree) empty (one 0) .0 (subst (Meets (sample .tree) empty) same m) .2
+
+-- ---- 4. A granted bypass can break it. Role 0's bypass set has 0, so its session may give a file the E {0} or take it away
+root-in-order : InOrder Privilege (sample .tree .n) 0 root
+root-in-order = (lit≤ tt, inr (term (one 0), sample-root, refl))
+
+none-in-order : InOrder Privilege (sample .tree .n) 0 []
+none-in-order = (lit≤ tt, inl refl)
+
+module _ (file : ℕ) (few : file < 4) {t e : List ℕ} (f : FileParts (heldBy 0) file t e) (new : List ℕ) where
+  covered : (e ≡ root) ⊎ (e ≡ []) → (new ≡ root) ⊎ (new ≡ []) → Covers (heldBy 0) 0 file read new []
+  covered was is = record {
+    of-e = λ u. ⊎-elim (λ w. rw (sample-role0 .b) (within u new is (w .0))) (λ w. rw (sample-role0 .b) (within u e was (rw (f .e) at (w .0))));
+    of-g = λ u. ⊎-elim
+        (λ w. absurd (nobody (sample .tree) u (w .0)))
+        (λ w. absurd (nobody (sample .tree) u (rw (f .g) at (w .0))));
+  }
+    where
+      within : (u : ℕ) (x : List ℕ) → (x ≡ root) ⊎ (x ≡ []) → SET (sample .tree) x u → SET (sample .tree) root u
+      within u x (inl q) m = subst (λ (y : List ℕ). SET (sample .tree) y u) q m
+      within u x (inr q) m = absurd (nobody (sample .tree) u (subst (λ (y : List ℕ). SET (sample .tree) y u) q m))
+
+  bypassed : InOrder Privilege (sample .tree .n) 0 new → Covers (heldBy 0) 0 file read new []
+      → Step (heldBy 0) (bypass 0 file read new []) granted (withEG (heldBy 0) file read new [])
+  bypassed o c =
+      let h = held-is 0 (lit< tt) in
+      let changes = changes-row (held-role 0 sample-role0) f in
+      bypass-step (heldBy 0) 0 file read new [] (record {
+        store = record {
+          row = row h file few read changeProtection (lit< tt) changes;
+          first = (0, sample-depth, o);
+          second = (0, sample-depth, none-in-order);
+        };
+        covers = its h (λ r. Covers (heldBy 0) r file read new []) c;
+      })
+
+-- judged in the loaded state: file 2 has no indelible part when loaded; it is given E = {0}, and then content of file 0 moves to it
+abbrev pub bypassedBefore : List GateEvent
+bypassedBefore =
+    done sample (begin 0 0)
+    ∷ done (heldBy 0) (bypass 0 2 read root [])
+    ∷ done raised (ask 0 0 read)
+    ∷ done raised (ask 0 2 write)
+    ∷ []
+
+pub record ABypassBreaksItForTheLoadedState : Type 0 where
+  pub loads : Step freshState (load sampleImage) granted sample
+  pub run : GateRun sample bypassedBefore raised
+  pub moved : Move bypassedBefore 0 2
+  pub last-passed : PassesWithNothing sample 2
+  pub first-not-passed : PassesWithNothing sample 0 → ⊥
+
+raised-held : Held raised 0
+raised-held =
+    let h = held-is 0 (lit< tt) in
+    record {
+      well-formed = eg-kept (heldBy 0) (h .well-formed) 0 sample-depth 2 (rw (h .counted) (lit< tt)) read (lit< tt) root []
+          root-in-order none-in-order;
+      held = h .held;
+      counted = h .counted;
+    }
+
+pub a-bypass-breaks-it-for-the-loaded-state : ABypassBreaksItForTheLoadedState
+a-bypass-breaks-it-for-the-loaded-state =
+    let raising = bypassed 2 (lit< tt) (held-file 0 sample-file2) root root-in-order
+    (covered 2 (lit< tt) (held-file 0 sample-file2) root (inr refl) (inl refl)) in
+    let role = raised-role sample-role0 in
+    record {
+      loads = sample-loads;
+      run =
+          next (begun 0 (lit< tt))
+          (next raising
+          (next (asked-read raised-held 0 (lit< tt) role raised-file0 (e-row _ _) (λ u x. x))
+          (next (asked-write raised-held 2 (lit< tt) role raised-file2 (λ u x. x))
+          none)));
+      moved = record {
+        slot = 0;
+        earlier = done sample (begin 0 0) ∷ done (heldBy 0) (bypass 0 2 read root []) ∷ [];
+        takes = done raised (ask 0 0 read);
+        between = [];
+        puts = done raised (ask 0 2 write);
+        later = [];
+        in-order = refl;
+        takes-out = by-read (record { was = refl; granted = refl });
+        from-a = refl;
+        puts-in = by-write (record { was = refl; granted = refl });
+        to-b = refl;
+        not-ended = tt;
+      };
+      last-passed = passes-empty sample 2 (sample-file2 .e) (sample-file2 .g);
+      first-not-passed = fails-root sample 0 (sample-file0 .e);
+    }
+
+-- judged in the present state: content moves from file 0 to file 1, both with E = {0}, and then file 1's E is taken away
+abbrev pub bypassedAfter : List GateEvent
+bypassedAfter = readThenWrite 0 0 1 (done (heldBy 0) (bypass 0 1 read [] []) ∷ [])
+
+pub record ABypassBreaksItForThePresentState : Type 0 where
+  pub loads : Step freshState (load sampleImage) granted sample
+  pub run : GateRun sample bypassedAfter lowered
+  pub moved : Move bypassedAfter 0 1
+  pub last-passed : PassesWithNothing lowered 1
+  pub first-not-passed : PassesWithNothing lowered 0 → ⊥
+
+pub a-bypass-breaks-it-for-the-present-state : ABypassBreaksItForThePresentState
+a-bypass-breaks-it-for-the-present-state =
+    let lowering = bypassed 1 (lit< tt) (held-file 0 sample-file1) [] none-in-order
+    (covered 1 (lit< tt) (held-file 0 sample-file1) [] (inl refl) (inr refl)) in
+    record {
+      loads = sample-loads;
+      run = then-run _ lowered (next lowering none);
+      moved = read-then-write-moves 0 0 1 _;
+      last-passed = passes-empty lowered 1 (lowered-file1 .e) (lowered-file1 .g);
+      first-not-passed = fails-root lowered 0 (lowered-file0 .e);
+    }
