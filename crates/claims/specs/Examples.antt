@@ -71,7 +71,7 @@ module _ {s : State} {role file : ℕ} {v m b t e : List ℕ} (r : RoleParts s r
   writes-row : Passes s role file write
   writes-row = rw (r .v-plus-write, r .v-minus-write, f .t1-write, f .e-write, f .t2-write, f .g-write) (empty-row (s .tree) _ _)
 
-  changes-row : Passes s role file changeProtection
+  pub changes-row : Passes s role file changeProtection
   changes-row = rw (r .v-plus-change, r .v-minus-change, f .t1-change, f .e-change, f .t2-change, f .g-change) (empty-row (s .tree) _ _)
 
   reads-mediated : SET (s .tree) e ⊆ SET (s .tree) m → Mediates s role file read
@@ -97,14 +97,14 @@ pub record Held (s : State) (role : ℕ) : Type 0 where
   pub counted : s .nfiles ≡ 4
 
 module _ {s : State} {role : ℕ} (h : Held s role) where
-  session : SessionGranted s 0
+  pub session : SessionGranted s 0
   session = record { well-formed = h .well-formed; known = lit< tt; taken = λ e. free-held (sym e ∙ h .held) }
 
-  its : (P : ℕ → Type 0) → P role → P (roleOf s 0)
+  pub its : (P : ℕ → Type 0) → P role → P (roleOf s 0)
   its P p = subst P (sym (ap roleIn (h .held))) p
 
   module _ (file : ℕ) (few : file < 4) where
-    row : (mode judged : ℕ) → IsMode mode → Passes s role file judged → RowGranted s 0 file mode judged
+    pub row : (mode judged : ℕ) → IsMode mode → Passes s role file judged → RowGranted s 0 file mode judged
     row mode judged m p = record {
       session = session;
       present = rw (h .counted) few;
@@ -124,7 +124,7 @@ module _ {s : State} {role : ℕ} (h : Held s role) where
       asked-write q = asked write (lit< tt) (writes-row r f) (writes-mediated r f q)
 
 -- the sample held by one of its roles
-held-is : (role : ℕ) → role < 3 → Held (heldBy role) role
+pub held-is : (role : ℕ) → role < 3 → Held (heldBy role) role
 held-is role h = record {
   well-formed = by-kept sample sample-well-formed 0 role (lit< tt) (rw (sample-counts .0) h);
   held = hold-here sample (sample-well-formed .room) 0 (By role) (lit< tt);
@@ -286,11 +286,11 @@ mutable-parts-have-no-say =
 root-in-order : InOrder Privilege (sample .tree .n) 0 root
 root-in-order = (lit≤ tt, inr (term (one 0), sample-root, refl))
 
-none-in-order : InOrder Privilege (sample .tree .n) 0 []
+pub none-in-order : InOrder Privilege (sample .tree .n) 0 []
 none-in-order = (lit≤ tt, inl refl)
 
 module _ (file : ℕ) (few : file < 4) {t e : List ℕ} (f : FileParts (heldBy 0) file t e) (new : List ℕ) where
-  covered : (e ≡ root) ⊎ (e ≡ []) → (new ≡ root) ⊎ (new ≡ []) → Covers (heldBy 0) 0 file read new []
+  pub covered : (e ≡ root) ⊎ (e ≡ []) → (new ≡ root) ⊎ (new ≡ []) → Covers (heldBy 0) 0 file read new []
   covered was is = record {
     of-e = λ u. ⊎-elim (λ w. rw (sample-role0 .b) (within u new is (w .0))) (λ w. rw (sample-role0 .b) (within u e was (rw (f .e) at (w .0))));
     of-g = λ u. ⊎-elim

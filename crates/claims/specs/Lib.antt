@@ -13,3 +13,6 @@ pub mod StarredLaws
 pub mod Steps
 pub mod Sample
 pub mod Examples
+pub mod Programs
+pub mod ProgramLaws
+pub mod Empty

@@ -74,7 +74,7 @@ every-replay-is-a-run {input} (inr p) = inr (record {
 -- the load and the records are one run from the fresh state
 pub from-the-fresh-state : {input printed : List ℕ} (p : InputRun input printed) (h : 2 + stated input ≤ length input)
     → let w = p .whole h in
-      GateRun freshState (record { before = freshState; request = load (imageIn input); answer = p .answer } ∷ w .calls) (w .last-state)
+    GateRun freshState (record { before = freshState; request = load (imageIn input); answer = p .answer } ∷ w .calls) (w .last-state)
 from-the-fresh-state {input} p h =
     next {e = record { before = freshState; request = load (imageIn input); answer = p .answer }} (p .loads) (p .whole h .runs)
 
