@@ -13,6 +13,7 @@ use lib.Seq.{take-suc, take-suc-set, take-all, take-append-le, split-at, length-
 use Rattle.io.specs.Digits.{glyph, Fewest}
 use Rattle.answer.specs.declared.Answer.{Answer}
 use Rattle.lines.specs.Lines.{hexes, Fills, Held, Unended, Collected}
+use Rattle.lines.specs.Laws.{unended-append}
 use Rattle.lines.specs.Writing.{WrittenAt, DecimalAt, Keeps}
 
 -- lists that are the same from k on are the same from further on
@@ -87,10 +88,6 @@ module _ (n : ℕ) (kept : List ℕ) (x : ℕ) where
     long = refl;
   }
 
-unended-more : (u : List ℕ) (x : ℕ) → Unended u → (x ≡ 10 → ⊥) → Unended (u ++ (x ∷ []))
-unended-more [] x h n = (n, tt)
-unended-more (y ∷ u) x h n = (h .0, unended-more u x (h .1) n)
-
 -- the first i bytes of the input were added
 pub record Collecting (input : List ℕ) (n : ℕ) (before : List ℕ) (i k : ℕ) (kept : List ℕ) : Type 0 where
   pub within : i ≤ length input
@@ -110,7 +107,7 @@ module _ (input : List ℕ) (n : ℕ) (before : List ℕ) where
         let s : take (i + 1) input ≡ take i input ++ (getD input i 0 ∷ []) = ap (λ (z : ℕ). take z input) (add-one i) ∙ take-suc input i 0 h in
         record {
           within = omega arith;
-          unended = rw s (unended-more (take i input) (getD input i 0) (c .unended) e);
+          unended = rw s (unended-append (take i input) (getD input i 0 ∷ []) (c .unended) (e, tt));
           held = λ w f. rw s (rw append-assoc at (q .held (w ++ take i input) (c .held w f)));
           rest = q .rest ∙ drop-more kept before k j (q .on) (c .rest);
           long = q .long ∙ c .long;

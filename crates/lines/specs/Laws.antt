@@ -1,14 +1,14 @@
 -- An answer has one line, and a part of the input leaves one line behind. Assumes nothing.
 use mathlib.Core.Path.{_≡_, refl, sym, ap, ap₂, _∙_, subst}
 use mathlib.Core.Bool.{Bool, true, false}
-use mathlib.Core.List.{List, [], _∷_, _++_}
+use mathlib.Core.List.{List, [], _∷_, _++_, append-cancel-left, tail-eq-of-cons-eq}
 use Prim.Native.Nat.{ℕ, _+_, _-_, _^_, _<_, _≤_, min}
 use native.Mathlib.Nat.{pow-le-pow-right}
 use native.Mathlib.Decide.{decLt}
 use native.Mathlib.Omega.{arith}
 use lib.Dec.{lit<}
 use lib.ListN.{length, take, drop, length-append, length-drop, take-append-drop}
-use lib.Seq.{take-all, length-take-le}
+use lib.Seq.{take-all, take-append-add, length-take-le}
 use Rattle.io.specs.Digits.{digits, Fewest}
 use Rattle.answer.specs.declared.Answer.{Answer}
 use Rattle.lines.specs.declared.Part.{Part}
@@ -45,11 +45,15 @@ one-filling {before = before} f g =
     (n, f .filled ∙ ap₂ (λ (u : List ℕ) (k : ℕ). u ++ drop k before) l n ∙ sym (g .filled))
 
 -- ---- what is collected
-has-end : (p u : List ℕ) → Unended (p ++ (10 ∷ u)) → ⊥
+pub unended-append : (u v : List ℕ) → Unended u → Unended v → Unended (u ++ v)
+unended-append [] v h k = k
+unended-append (x ∷ u) v h k = (h .0, unended-append u v (h .1) k)
+
+pub has-end : (p u : List ℕ) → Unended (p ++ (10 ∷ u)) → ⊥
 has-end [] u h = h .0 refl
 has-end (x ∷ p) u h = has-end p u (h .1)
 
-same-part : (p q u v : List ℕ) → Unended p → Unended q → p ++ (10 ∷ u) ≡ q ++ (10 ∷ v) → p ≡ q
+pub same-part : (p q u v : List ℕ) → Unended p → Unended q → p ++ (10 ∷ u) ≡ q ++ (10 ∷ v) → p ≡ q
 same-part [] [] u v h k e = refl
 same-part [] (y ∷ q) u v h k e = let z : y ≡ 10 = cc in absurd (k .0 z)
 same-part (x ∷ p) [] u v h k e = let z : x ≡ 10 = cc in absurd (h .0 z)
@@ -58,10 +62,46 @@ same-part (x ∷ p) (y ∷ q) u v h k e =
     let b : p ++ (10 ∷ u) ≡ q ++ (10 ∷ v) = cc in
     ap₂ (λ (z : ℕ) (t : List ℕ). z ∷ t) a (same-part p q u v (h .1) (k .1) b)
 
-module _ (input : List ℕ) (n : ℕ) (before : List ℕ) (few : n ≤ 513) (long : length before ≡ 513) where
-  ended-next : {r : Part} {x : List ℕ} (c : Collected input n before r x) → r .ended ≡ true → r .next ≡ length (c .part) + 1
-  ended-next {r} c e = omega (arith, ap length (c .ended e) ∙ length-append (c .part) (10 ∷ drop (r .next) input), length-drop (r .next) input, c .within)
+pub same-rest : (p q u v : List ℕ) → Unended p → Unended q → p ++ (10 ∷ u) ≡ q ++ (10 ∷ v) → u ≡ v
+same-rest p q u v h k e =
+    let s : p ++ (10 ∷ u) ≡ p ++ (10 ∷ v) = e ∙ ap (λ (z : List ℕ). z ++ (10 ∷ v)) (sym (same-part p q u v h k e)) in
+    tail-eq-of-cons-eq (append-cancel-left p (10 ∷ u) (10 ∷ v) s)
 
+-- what was collected is the front of the input
+module _ {input : List ℕ} {n : ℕ} {before : List ℕ} {r : Part} {x : List ℕ} (c : Collected input n before r x) where
+  ended-next : r .ended ≡ true → r .next ≡ length (c .part) + 1
+  ended-next e = omega (arith, ap length (c .ended e) ∙ length-append (c .part) (10 ∷ drop (r .next) input), length-drop (r .next) input, c .within)
+
+  pub ended-front : r .ended ≡ true → take (r .next) input ≡ c .part ++ (10 ∷ [])
+  ended-front e =
+      ap₂ take (ended-next e) (c .ended e) ∙ take-append-add (c .part) (10 ∷ drop (r .next) input) 1
+
+  pub unfinished-front : r .ended ≡ false → take (r .next) input ≡ c .part
+  unfinished-front e = let u = c .unfinished e in take-all (r .next) input (omega (arith, u .1)) ∙ u .0
+
+  -- some of it, unless there is none
+  pub collects-some : 0 < length input → 0 < r .next
+  collects-some h = go (r .ended) refl
+    where
+      go : (b : Bool) → r .ended ≡ b → 0 < r .next
+      go true e = omega (arith, ended-next e)
+      go false e = omega (arith, c .unfinished e .1)
+
+-- no line: none of it is kept
+pub none-held : (kept : List ℕ) → Held 0 kept []
+none-held kept = record { count = refl; is = refl }
+
+-- a line that is kept whole
+pub whole-held : (n : ℕ) (kept : List ℕ) → n ≤ 513 → length kept ≡ 513 → Held n kept (take n kept)
+whole-held n kept few long =
+    let e = length-take-le n kept (omega arith) in
+    record { count = omega arith; is = sym (take-all 513 (take n kept) (omega arith)) }
+
+-- so no more is kept than may be
+pub few-held : {n : ℕ} {kept w : List ℕ} → Held n kept w → n ≤ 513
+few-held h = omega (arith, h .count)
+
+module _ (input : List ℕ) (n : ℕ) (before : List ℕ) (few : n ≤ 513) (long : length before ≡ 513) where
   not-both : {r s : Part} {x y : List ℕ} → Collected input n before r x → Collected input n before s y → r .ended ≡ true → s .ended ≡ false → ⊥
   not-both {r} c d e f = has-end (c .part) (drop (r .next) input) (subst Unended (sym (d .unfinished f .0) ∙ c .ended e) (d .unended))
 
@@ -78,9 +118,7 @@ module _ (input : List ℕ) (n : ℕ) (before : List ℕ) (few : n ≤ 513) (lon
 
   -- so are the bytes that are kept
   all-held : {r : Part} {x : List ℕ} (c : Collected input n before r x) → Held (r .n) x (take n before ++ c .part)
-  all-held c =
-      let e = length-take-le n before (omega arith) in
-      c .held (take n before) (record { count = omega arith; is = sym (take-all 513 (take n before) (omega arith)) })
+  all-held c = c .held (take n before) (whole-held n before few long)
 
   pub one-collected : {r s : Part} {x y : List ℕ} → Collected input n before r x → Collected input n before s y → (r ≡ s) × (x ≡ y)
   one-collected {r} {s} {x} {y} c d =
