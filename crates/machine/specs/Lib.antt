@@ -1,4 +1,6 @@
 pub mod Runs
 pub mod Machine
+pub mod Served
 pub mod RunLaws
 pub mod Laws
+pub mod ServedLaws
