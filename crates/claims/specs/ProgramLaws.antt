@@ -1,4 +1,4 @@
--- Every well-formed state is one that code can hold. Assumes nothing.
+-- Every well-formed state is one that code can hold, and every request that code can make is one that `machine::serve` can be given. Assumes nothing.
 use mathlib.Core.Path.{_≡_, refl, sym, ap, _∙_, subst}
 use mathlib.Core.Bool.{Bool, true, false}
 use mathlib.Core.List.{List, [], _∷_, _++_}
@@ -21,7 +21,9 @@ use Rattle.policy.specs.State.{heldIn}
 use Rattle.policy.specs.WellFormed.{WellFormed}
 use Rattle.policy.specs.Fine.{Shelving, roleShelves, fileShelves, AllAre, roleUsed, fileUsed}
 use Rattle.policy.specs.Whole.{well-formed-fine}
-use Rattle.claims.specs.Programs.{AllUnder, ShelfOfBytes, CodeState}
+use Rattle.machine.specs.Machine.{Request, load, begin, end, ask, change, bypass}
+use Rattle.machine.specs.Served.{requestOf}
+use Rattle.claims.specs.Programs.{AllUnder, ShelfOfBytes, CodeState, CodeRequest}
 
 -- ---- numbers below m, element by element
 abbrev Under : ℕ → List ℕ → Type 0
@@ -131,3 +133,79 @@ well-formed-code {s} w =
     slot : (i x : ℕ) → getD (s .slots) i 0 ≡ x → getD (s .slots) i 0 < 2 ^ 16
     slot i zero e = rw e (omega arith)
     slot i (suc r) e = rw e (omega (arith, w .held-present i r (ap heldIn e), w .role-count))
+
+-- a request as `machine::serve` is given it: four bytes, and two slices of bytes
+pub record AsServed (q : Request) : Type 0 where
+  pub code : ℕ
+  pub slot : ℕ
+  pub a : ℕ
+  pub b : ℕ
+  pub x : List ℕ
+  pub y : List ℕ
+  pub is : requestOf code slot a b x y ≡ q
+  pub are-bytes : (code < 256) × (slot < 256) × (a < 256) × (b < 256) × AllUnder 256 x × AllUnder 256 y
+
+nothing : AllUnder 256 []
+nothing i = omega arith
+
+pub every-request-is-served : (q : Request) → CodeRequest q → AsServed q
+every-request-is-served (load image) h = record {
+  code = 0;
+  slot = 0;
+  a = 0;
+  b = 0;
+  x = image;
+  y = [];
+  is = refl;
+  are-bytes = (omega arith, omega arith, omega arith, omega arith, h, nothing);
+}
+every-request-is-served (begin slot role) h = record {
+  code = 1;
+  slot = slot;
+  a = role;
+  b = 0;
+  x = [];
+  y = [];
+  is = refl;
+  are-bytes = (omega arith, h .0, h .1, omega arith, nothing, nothing);
+}
+every-request-is-served (end slot) h = record {
+  code = 2;
+  slot = slot;
+  a = 0;
+  b = 0;
+  x = [];
+  y = [];
+  is = refl;
+  are-bytes = (omega arith, h, omega arith, omega arith, nothing, nothing);
+}
+every-request-is-served (ask slot file mode) h = record {
+  code = 3;
+  slot = slot;
+  a = file;
+  b = mode;
+  x = [];
+  y = [];
+  is = refl;
+  are-bytes = (omega arith, h .0, h .1, h .2, nothing, nothing);
+}
+every-request-is-served (change slot file mode t1 t2) h = record {
+  code = 4;
+  slot = slot;
+  a = file;
+  b = mode;
+  x = t1;
+  y = t2;
+  is = refl;
+  are-bytes = (omega arith, h .0, h .1, h .2, h .3, h .4);
+}
+every-request-is-served (bypass slot file mode e g) h = record {
+  code = 5;
+  slot = slot;
+  a = file;
+  b = mode;
+  x = e;
+  y = g;
+  is = refl;
+  are-bytes = (omega arith, h .0, h .1, h .2, h .3, h .4);
+}

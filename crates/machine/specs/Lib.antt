@@ -3,4 +3,3 @@ pub mod Machine
 pub mod Served
 pub mod RunLaws
 pub mod Laws
-pub mod ServedLaws
