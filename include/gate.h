@@ -55,6 +55,17 @@ static inline uint32_t gate_number(uint32_t answer) { return answer % 256; }
 /* The place of a packed answer. */
 static inline uint32_t gate_place(uint32_t answer) { return answer / 256; }
 
+/* ---- The stack ----------------------------------------------------------------------------- */
+
+/*
+ * No call uses a heap. A thread whose stack has this many bytes has enough for the call: measured
+ * on the worst inputs that were found (a text of 512 opening parentheses needs 541 KB, the longest
+ * image and its requests 231 KB), with a margin, and tested in such a thread (tests/c/stack.c).
+ * That is not proved.
+ */
+#define GATE_TEXT_STACK 655360
+#define GATE_REPLAY_STACK 327680
+
 /* ---- Whole inputs and texts ---------------------------------------------------------------- */
 
 /*

@@ -2,14 +2,20 @@
 //!
 //!     compare [--long] [--seed N] [--times N]     all parts; --long makes forty times the rounds
 //!     compare --program PATH [--seed N]           the program `replay` there, on long inputs
+//!     compare --turn PATH [--seed N]              the program `turn` there, on many lines
+//!     compare --vectors PATH [--seed N]           the program `vectors` there, on made states
 //!     compare --replay < HEX                      one input, both outputs
 //!     compare --text < HEX                        one text, both answers
 //!
 //! Fails at the first difference, or if a number or a kind of place was never met, or if asks
-//! were not granted and refused in balance.
+//! were not granted and refused in balance, or if a program does not end with exit status 0.
 
 mod calls;
+mod cases;
 mod draw;
+mod long;
+mod longest;
+mod made;
 mod parts;
 mod policies;
 mod program;
@@ -17,6 +23,8 @@ mod records;
 mod runner;
 mod tally;
 mod texts;
+mod turn;
+mod windows;
 
 #[cfg(test)]
 mod tests;
@@ -33,9 +41,9 @@ fn main() -> ExitCode {
     let words: Vec<String> = std::env::args().skip(1).collect();
     let done = match words.first().map(String::as_str) {
         Some(which @ ("--replay" | "--text")) => one(which),
-        Some("--program") => match words.get(1) {
-            Some(path) => options(&words[2..]).and_then(|(seed, _)| program::compare(path, seed)),
-            None => Err("--program needs a path".to_string()),
+        Some(which @ ("--program" | "--turn" | "--vectors")) => match words.get(1) {
+            Some(path) => options(&words[2..]).and_then(|(seed, _)| program(which, path, seed)),
+            None => Err(format!("{which} needs a path")),
         },
         _ => options(&words).and_then(|(seed, times)| run(seed, times)),
     };
@@ -68,6 +76,18 @@ fn options(words: &[String]) -> Result<(u64, usize), String> {
         }
     }
     Ok((seed, times))
+}
+
+/// A program against the twin.
+fn program(which: &str, path: &str, seed: u64) -> Result<String, String> {
+    match which {
+        "--turn" => turn::compare(path, seed),
+        "--vectors" => made::compare(path, seed),
+        _ => {
+            let long = long::compare(path, seed)?;
+            Ok(format!("{long}\n{}", windows::compare(path, seed)?))
+        }
+    }
 }
 
 /// All parts, and what was met.

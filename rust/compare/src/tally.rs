@@ -179,11 +179,40 @@ impl Tally {
         missing
     }
 
+    /// What had to be met of texts that have room enough and was not.
+    pub fn missing_texts(&self) -> Vec<String> {
+        let never = |&&number: &&usize| number != 20 && self.numbers[TEXT][number] == 0;
+        let numbers = CAN[TEXT].iter().filter(never);
+        let mut missing: Vec<String> = numbers.map(|n| format!("text never gave {n}")).collect();
+        let kinds = self.kinds.iter().filter(|(kind, _)| of_text(kind));
+        missing.extend(
+            kinds
+                .filter(|(_, &count)| count == 0)
+                .map(|(kind, _)| format!("never met: {kind}")),
+        );
+        missing
+    }
+
+    /// The counts of texts, a line each.
+    pub fn texts(&self) -> String {
+        let kinds = KINDS.iter().filter(|kind| of_text(kind));
+        let mut lines: String = kinds
+            .map(|kind| format!("{:>9}  {kind}\n", self.kinds[kind]))
+            .collect();
+        lines += &format!("{:>9}  text: 19\n", self.numbers[TEXT][19]);
+        lines
+    }
+
     /// Asks granted and refused.
     fn asks(&self) -> (u64, u64) {
         let asks = self.numbers[ASK];
         (asks[0], asks[1..].iter().sum())
     }
+}
+
+/// Whether a kind of place is one of texts.
+fn of_text(kind: &str) -> bool {
+    kind.starts_with("text: ")
 }
 
 /// The kind of a load's place, if one is named.
@@ -238,7 +267,7 @@ impl fmt::Display for Tally {
             });
             writeln!(f, "{number:>6} {}", row(counts))?;
         }
-        writeln!(f, "17 is asked for nowhere: a state that came from the fresh one by load and requests is well formed.")?;
+        writeln!(f, "17 is asked for nowhere: a state that came from the fresh one by load and requests is well formed. States that a caller makes are given to the program vectors.")?;
         for kind in KINDS {
             writeln!(f, "{:>9}  {kind}", self.kinds[kind])?;
         }

@@ -1,7 +1,8 @@
 //! That differences are found: subjects that are wrong in one way each.
 
-use crate::all_parts;
+use crate::program::printed;
 use crate::runner::{from_hex, Runner, Subject};
+use crate::{all_parts, cases, long, made, turn, windows};
 use gate::{Answer, TooShort};
 
 fn twins_replay(input: &[u8], out: &mut [u8]) -> Result<usize, TooShort> {
@@ -98,6 +99,54 @@ fn a_wrong_place_of_a_text_is_found() {
         answer
     };
     assert!(found(Subject { text, ..TWIN }).contains("(18, 511)"));
+}
+
+/// The cases by hand, and their answers from the papers, of which 17 is on made states.
+const CASES: &str = include_str!("../../../crates/vectors/stdin");
+const ANSWERS: &str = include_str!("../../../crates/vectors/stdout");
+
+#[test]
+fn the_twin_answers_the_cases_by_hand() {
+    let written = cases::written(CASES).expect("every line is a case");
+    for (written, by_hand) in written.lines().zip(ANSWERS.lines()) {
+        assert_eq!(written, by_hand);
+    }
+    assert_eq!(written, ANSWERS);
+    let ill = ": 17 17 17 17 17; 17 17 17 17 17";
+    let count = ANSWERS.lines().filter(|line| line.ends_with(ill)).count();
+    assert!(count >= 33, "{count} made states that are not well formed");
+}
+
+#[test]
+fn a_case_that_is_no_call_is_found() {
+    assert!(cases::written("x: nothing").is_err());
+    assert!(cases::written(": change 00 00 00 02 01").is_err());
+    assert!(cases::written("x: base").is_err());
+}
+
+#[test]
+fn an_exit_status_is_found() {
+    let shell = |commands: &str| printed("/bin/sh", commands.as_bytes(), 1);
+    assert_eq!(shell("echo 1; echo 2"), Ok(b"1\n2\n".to_vec()));
+    let found = shell("echo 1; exit 3").expect_err("it failed");
+    assert!(found.contains("exit status: 3"), "{found}");
+    let found = shell("echo 1; kill -9 $$").expect_err("it was killed");
+    assert!(found.contains("signal: 9"), "{found}");
+    assert!(printed("/bin/no such program", b"", 1).is_err());
+}
+
+#[test]
+fn a_program_that_says_nothing_is_found() {
+    let compares = [
+        long::compare,
+        windows::compare,
+        turn::compare,
+        made::compare,
+    ];
+    for compare in compares {
+        let found = compare("/bin/true", 1).expect_err("it prints nothing");
+        assert!(found.contains("program None, twin Some"), "{found}");
+    }
 }
 
 #[test]

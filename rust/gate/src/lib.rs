@@ -16,6 +16,13 @@ use std::fmt;
 /// The most bytes that an expression has, and the least room for a text's (01: "Length 0 to 48").
 pub const MOST_BYTES: usize = 48;
 
+/// As many bytes of stack as a thread has to have for [`turn_text`] and [`text_to_bytes`]
+/// (include/gate.h, "The stack").
+pub const TEXT_STACK: usize = 655_360;
+
+/// As many bytes of stack as a thread has to have for [`replay`] and [`replay_into`].
+pub const REPLAY_STACK: usize = 327_680;
+
 /// The room did not suffice: it has the output's first bytes, as many as it holds.
 #[derive(Clone, Copy, Debug, PartialEq, Eq)]
 pub struct TooShort;

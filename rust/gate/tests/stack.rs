@@ -1,0 +1,60 @@
+//! The stack that include/gate.h states, of which `tests/c/stack.c` measures the need: both calls in
+//! threads that have no more.
+
+use gate::{replay, text_to_bytes, REPLAY_STACK, TEXT_STACK};
+
+/// Makes a call in a thread with so much stack. One that is too small ends the whole test.
+fn with_stack<T: Send + 'static>(bytes: usize, call: fn() -> T) -> T {
+    let thread = std::thread::Builder::new().stack_size(bytes).spawn(call);
+    thread.expect("a thread").join().expect("no panic")
+}
+
+#[test]
+fn the_header_states_the_same() {
+    let header = include_str!("../../../include/gate.h");
+    let stated = |name: &str| {
+        let line = format!("#define {name} ");
+        let (_, rest) = header.split_once(&line).expect("it is stated");
+        let figures = rest.split_whitespace().next().expect("a number");
+        figures.parse::<usize>().expect("a number")
+    };
+    assert_eq!(stated("GATE_TEXT_STACK"), TEXT_STACK);
+    assert_eq!(stated("GATE_REPLAY_STACK"), REPLAY_STACK);
+}
+
+#[test]
+fn a_text_of_opening_parentheses_has_stack_enough() {
+    let refused = with_stack(TEXT_STACK, || text_to_bytes(&[b'('; 512]));
+    let refused = refused.expect_err("nothing is closed");
+    assert_eq!((refused.number.0, refused.place), (18, 512));
+}
+
+/// The longest image and requests by a role that all is held against.
+fn longest() -> Vec<u8> {
+    let mut expression = vec![48];
+    expression.extend([3; 14]);
+    expression.extend([2, 63, 0, 63, 2, 0, 63, 63]);
+    expression.extend([1, 5].repeat(13));
+    let mut input = vec![0, 0];
+    input.extend(b"SPT\x01\x00\x40");
+    input.extend(0..63);
+    for count in [13, 20] {
+        input.push(32);
+        input.extend(expression.repeat(32 * count));
+    }
+    let length = (input.len() - 2) as u16;
+    input[..2].copy_from_slice(&length.to_le_bytes());
+    input.extend([1, 0, 31, 3, 0, 31, 0, 3, 0, 31, 1]);
+    for code in [4, 5] {
+        input.extend([code, 0, 31, 0]);
+        input.extend(expression.repeat(2));
+    }
+    input
+}
+
+#[test]
+fn a_replay_of_the_longest_image_has_stack_enough() {
+    assert_eq!(longest()[..2], 51_815_u16.to_le_bytes());
+    let printed = with_stack(REPLAY_STACK, || replay(&longest()));
+    assert_eq!(printed, b"0 0\n0 0\n14 0\n14 0\n14 0\n14 0\n");
+}

@@ -1,0 +1,193 @@
+/*
+ * The stack that gate.h states is enough, with an eighth to spare: each call runs in a thread whose
+ * stack is filled before and looked through after it, first with much room, then with exactly what
+ * is stated. Below a stack lies a stretch that nobody may touch.
+ */
+#include "gate.h"
+
+#include <pthread.h>
+#include <stdio.h>
+#include <stdlib.h>
+#include <string.h>
+#include <sys/mman.h>
+
+#define FILL 0xa5
+#define MUCH (16u << 20)
+#define BELOW (4u << 20)
+
+/* A call and what it has to give. */
+struct call {
+    const char *name;
+    int text;
+    const uint8_t *input;
+    size_t length;
+    const char *printed;
+    uint32_t answer;
+};
+
+static uint8_t out[4096];
+
+static void fail(const struct call *call, const char *why, size_t number) {
+    printf("stack: %s: %s, %lu\n", call->name, why, (unsigned long)number);
+    exit(1);
+}
+
+/* Makes the call, and looks at what it gives. */
+static void *make(void *given) {
+    const struct call *call = (const struct call *)given;
+    if (call->text) {
+        uint32_t answer = gate_text(call->input, call->length, out, 48);
+        if (answer != call->answer) fail(call, "the answer", answer);
+        return NULL;
+    }
+    size_t length = gate_replay(call->input, call->length, out, sizeof out);
+    if (length != strlen(call->printed)) fail(call, "how much is printed", length);
+    if (memcmp(out, call->printed, length) != 0) fail(call, "what is printed", length);
+    return NULL;
+}
+
+/* How many bytes of a stack of so many a call touches. */
+static size_t touched(struct call *call, size_t size) {
+    void *all = mmap(NULL, BELOW + size, PROT_NONE, MAP_PRIVATE | MAP_ANONYMOUS, -1, 0);
+    uint8_t *stack = (uint8_t *)all + BELOW;
+    pthread_attr_t attr;
+    pthread_t thread;
+    size_t k = 0;
+    if (all == MAP_FAILED || mprotect(stack, size, PROT_READ | PROT_WRITE) != 0) fail(call, "no memory", size);
+    memset(stack, FILL, size);
+    if (pthread_attr_init(&attr) != 0) fail(call, "no attributes", size);
+    if (pthread_attr_setstack(&attr, stack, size) != 0) fail(call, "no such stack", size);
+    if (pthread_create(&thread, &attr, make, call) != 0) fail(call, "no thread", size);
+    if (pthread_join(thread, NULL) != 0) fail(call, "no end", size);
+    pthread_attr_destroy(&attr);
+    while (k < size && stack[k] == FILL) k++;
+    munmap(all, BELOW + size);
+    return size - k;
+}
+
+/* Measures a call, and makes it in a stack that has what is stated and no more. */
+static void measure(struct call *call, size_t stated) {
+    size_t need = touched(call, MUCH);
+    printf("stack: %7lu of %lu bytes: %s\n", (unsigned long)need, (unsigned long)stated, call->name);
+    if (stated - stated / 8 < need) fail(call, "more than seven eighths of what is stated", need);
+    touched(call, stated);
+}
+
+/* ---- Texts --------------------------------------------------------------------------------- */
+
+/* So many bytes of `front`, over and over, and `last`: 512 at most. */
+static void text(const char *name, const char *front, size_t length, const char *last, uint32_t answer) {
+    static uint8_t bytes[512];
+    struct call call = {name, 1, bytes, length + strlen(last), "", answer};
+    for (size_t k = 0; k < length; k++) bytes[k] = (uint8_t)front[k % strlen(front)];
+    memcpy(bytes + length, last, strlen(last));
+    measure(&call, GATE_TEXT_STACK);
+}
+
+static void texts(void) {
+    text("512 opening parentheses", "(", 512, "", GATE_TEXT_WRONG + 256 * 512);
+    text("511 and a securon", "(", 511, "1", GATE_TEXT_WRONG + 256 * 512);
+    text("505 and a range", "(", 505, "1[0..2]", GATE_TEXT_WRONG + 256 * 512);
+    text("parentheses with spaces", "( ", 512, "", GATE_TEXT_WRONG + 256 * 512);
+    text("parentheses after &", "1&(", 510, "12", GATE_TEXT_WRONG + 256 * 512);
+    text("parentheses after |", "1|(", 510, "12", GATE_TEXT_WRONG + 256 * 512);
+    text("a long row of &", "1&", 510, "12", GATE_TEXT_LONG);
+    text("a long row of |", "1|", 510, "12", GATE_TEXT_LONG);
+    text("no text", "", 0, "", GATE_DONE);
+}
+
+/* ---- Replays ------------------------------------------------------------------------------- */
+
+#define LONGEST_IMAGE 51815
+
+/* Two ranges and thirteen securons under 14 AND, 48 bytes; and sixteen securons under 15, the deepest. */
+static const uint8_t wide[48] = {3, 3, 3, 3, 3, 3, 3, 3, 3, 3, 3, 3, 3, 3, 2, 63, 0, 63, 2, 0, 63, 63, 1, 0,
+                                 1, 1, 1, 62, 1, 63, 1, 5, 1, 5, 1, 5, 1, 5, 1, 5, 1, 5, 1, 5, 1, 5, 1, 5};
+static const uint8_t deep[47] = {3, 3, 3, 3, 3, 3, 3, 3, 3, 3, 3, 3, 3, 3, 3, 1, 5, 1, 5, 1, 5, 1, 5, 1,
+                                 5, 1, 5, 1, 5, 1, 5, 1, 5, 1, 5, 1, 5, 1, 5, 1, 5, 1, 5, 1, 5, 1, 5};
+static const uint8_t ands[48] = {3, 3, 3, 3, 3, 3, 3, 3, 3, 3, 3, 3, 3, 3, 3, 3, 3, 3, 3, 3, 3, 3, 3, 3,
+                                 3, 3, 3, 3, 3, 3, 3, 3, 3, 3, 3, 3, 3, 3, 3, 3, 3, 3, 3, 3, 3, 3, 3, 3};
+static const uint8_t five[2] = {1, 5};
+
+static uint8_t input[2 + LONGEST_IMAGE + 1024];
+static size_t filled;
+
+static void put(const uint8_t *bytes, size_t count) {
+    memcpy(input + filled, bytes, count);
+    filled += count;
+}
+
+static void put_byte(size_t byte) { input[filled++] = (uint8_t)byte; }
+
+static void put_counted(const uint8_t *bytes, size_t count) {
+    put_byte(count);
+    put(bytes, count);
+}
+
+/* The image of 64 securons in one line, 32 roles and 32 files, each expression the same; V- empty if asked. */
+static void put_image(const uint8_t *bytes, size_t count, int no_minus) {
+    filled = 2;
+    put((const uint8_t *)"SPT\1\0\100", 6);
+    for (size_t parent = 0; parent < 63; parent++) put_byte(parent);
+    put_byte(32);
+    for (size_t k = 0; k < 32 * 13; k++) put_counted(bytes, no_minus && k % 13 < 10 && k % 13 % 2 ? 0 : count);
+    put_byte(32);
+    for (size_t k = 0; k < 32 * 20; k++) put_counted(bytes, count);
+    input[0] = (uint8_t)((filled - 2) % 256);
+    input[1] = (uint8_t)((filled - 2) / 256);
+}
+
+static void put_store(size_t code, const uint8_t *first, size_t count, const uint8_t *second, size_t other) {
+    const uint8_t numbers[3] = {0, 31, 0};
+    put_byte(code);
+    put(numbers, 3);
+    put_counted(first, count);
+    put_counted(second, other);
+}
+
+/* A begin, an ask of each mode, changes and bypasses with these bytes, and an end. */
+static void put_records(const uint8_t *bytes, size_t count) {
+    put((const uint8_t *)"\1\0\37", 3);
+    for (size_t mode = 0; mode < 5; mode++) {
+        put((const uint8_t *)"\3\0\37", 3);
+        put_byte(mode);
+    }
+    put_store(4, bytes, count, bytes, count);
+    put_store(5, bytes, count, bytes, count);
+    put_store(5, five, 2, five, 2);
+    put_store(4, ands, 48, ands, 48);
+    put((const uint8_t *)"\2\0", 2);
+}
+
+static void replay(const char *name, const char *printed) {
+    struct call call = {name, 0, input, filled, printed, 0};
+    measure(&call, GATE_REPLAY_STACK);
+}
+
+#define GRANTED "0 0\n0 0\n0 0\n0 0\n0 0\n0 0\n0 0\n0 0\n0 0\n0 0\n6 48\n0 0\n"
+#define BARRED "0 0\n0 0\n14 0\n14 0\n14 0\n14 0\n14 0\n14 0\n14 0\n14 0\n14 0\n0 0\n"
+
+static void replays(void) {
+    put_image(wide, 48, 0);
+    if (filled != 2 + LONGEST_IMAGE) exit(1);
+    put_records(wide, 48);
+    replay("the longest image, and requests that are refused", BARRED);
+    put_image(wide, 48, 1);
+    put_records(wide, 48);
+    replay("a long image, and requests that are granted", GRANTED);
+    put_image(deep, 47, 1);
+    put_records(deep, 47);
+    replay("the deepest expressions", GRANTED);
+    put_image(wide, 48, 0);
+    memcpy(input + filled - 48, ands, 48);
+    replay("the longest image, refused at its end", "6 51815\n");
+    filled = 0;
+    replay("no input", "cut\n");
+}
+
+int main(void) {
+    texts();
+    replays();
+    puts("stack: passed");
+    return 0;
+}
