@@ -1,7 +1,7 @@
 -- An output that is filled byte after byte holds what was written, as far as it fits. Assumes nothing.
 use mathlib.Core.Path.{_≡_, refl, sym, ap, _∙_, subst}
 use mathlib.Core.List.{List, [], _∷_, _++_, append-nil, append-assoc}
-use Prim.Native.Nat.{ℕ, suc, _+_, _<_, _≤_}
+use Prim.Native.Nat.{ℕ, suc, _+_, _-_, _<_, _≤_}
 use native.Mathlib.Numerals.{add-one}
 use native.Mathlib.Decide.{decLe}
 use native.Mathlib.Omega.{arith}
@@ -12,6 +12,7 @@ use Rattle.lines.specs.Lines.{Fills}
 use Rattle.script.specs.declared.Next.{Next}
 use Rattle.script.specs.declared.Told.{Told}
 use Rattle.script.specs.Script.{over, Filled}
+use Rattle.script.specs.Windows.{lineRoom}
 use Rattle.script.specs.Inner.{Puts, PutsLine, ToldIs}
 
 -- ---- one byte
@@ -19,7 +20,7 @@ length-over : (w before : List ℕ) → length (over w before) ≡ length before
 length-over w before = simp (length-append, length-take, length-drop) (omega arith)
 
 -- what fits stands whole, and what has no room is not there
-over-fits : (w before : List ℕ) → length w ≤ length before → over w before ≡ w ++ drop (length w) before
+pub over-fits : (w before : List ℕ) → length w ≤ length before → over w before ≡ w ++ drop (length w) before
 over-fits w before h = ap (λ (l : List ℕ). l ++ drop (length w) before) (take-all (length before) w h)
 
 over-full : (w before : List ℕ) → length before ≤ length w → over w before ≡ take (length before) w
@@ -94,12 +95,28 @@ puts-more w before between after n k r i h p q = rw (add-one, take-suc w i 0) (p
 pub filled-none : (first : List ℕ) → Filled [] first first 0
 filled-none first = record { is = sym (over-fits [] first (omega arith)); fits = λ _. refl; full = λ h. absurd (omega arith) }
 
+-- what fits was all written
+pub all-written : {w first before : List ℕ} {k : ℕ} → Filled w first before k → k ≤ length first → (k ≡ length w) × (before ≡ w ++ drop k first)
+all-written {w} {first} {before} {k} f h = go (decLe (length w) (length first))
+  where
+    go : Dec (length w ≤ length first) → (k ≡ length w) × (before ≡ w ++ drop k first)
+    go (yes a) = (f .fits a, f .is ∙ over-fits w first a ∙ ap (λ (i : ℕ). w ++ drop i first) (sym (f .fits a)))
+    go (no a) = absurd (omega (arith, f .full (omega arith)))
+
+-- and what has room fits
+pub still-fits : (w v : List ℕ) {first before after : List ℕ} {k r : ℕ} → Filled w first before k → k ≤ length first → length v ≤ length first - k
+    → Filled (w ++ v) first after r → r ≤ length first
+still-fits w v f h room f₂ =
+    let l = length-append w v in
+    let c = all-written f h .0 in
+    omega (arith, f₂ .fits (omega arith))
+
 -- the line of an answer, printed apart
-pub puts-line : (a : Answer) (apart printed before after : List ℕ) (long n r : ℕ) → Fills a [] apart printed long
+pub puts-line : (a : Answer) (apart printed before after : List ℕ) (long n r : ℕ) → Fills a [] apart printed long → length printed ≤ lineRoom
     → Puts (take long printed) before n after r → PutsLine a before n after r
-puts-line a apart printed before after long n r f p =
+puts-line a apart printed before after long n r f few p =
     let e = ap (take long) (f .filled) ∙ take-at (f .line) (drop long apart) long (sym (f .count)) in
-    (f .line, f .is-line, subst (λ (l : List ℕ). Puts l before n after r) e p)
+    (f .line, f .is-line, subst (λ (l : List ℕ). Puts l before n after r) e p, omega (arith, f .count, f .fits))
 
 -- what is told of a record is told by its kind
 pub told-as : (next x : Next) (a : Answer) (before : List ℕ) (n : ℕ) (after : List ℕ) (r : Told) → next ≡ x

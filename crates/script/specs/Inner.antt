@@ -2,6 +2,7 @@
 use mathlib.Core.Path.{_≡_}
 use mathlib.Core.Bool.{Bool, true, false, cond}
 use mathlib.Core.List.{List, [], _++_}
+use mathlib.Core.Logic.{_⊎_}
 use Prim.Native.Nat.{ℕ, _+_, _<_, _≤_}
 use lib.Dec.{eqb}
 use lib.ListN.{length, getD, take, drop}
@@ -12,7 +13,9 @@ use Rattle.lines.specs.Lines.{Line}
 use Rattle.script.specs.declared.Told.{Told}
 use Rattle.script.specs.declared.Next.{Next}
 use Rattle.script.specs.declared.Next.the-variants.{Ended, Cut, Whole}
-use Rattle.script.specs.Script.{cutLine, Plays, Filled}
+use Rattle.script.specs.declared.Extent.{Extent}
+use Rattle.script.specs.Script.{cutLine, longestFront, stated, Plays, Filled}
+use Rattle.script.specs.Windows.{lineRoom, Waits}
 
 -- 04 or 05 slot file mode, length byte and bytes, twice: the two expressions, the place of the second length byte, and the end
 abbrev pub secondAt : List ℕ → ℕ
@@ -53,7 +56,7 @@ Puts w before n after r = (first held : List ℕ) → Filled held first before n
 
 -- the line of a was
 abbrev pub PutsLine : Answer → List ℕ → ℕ → List ℕ → ℕ → Type 0
-PutsLine a before n after r = (line : List ℕ) × Line a [] line × Puts line before n after r
+PutsLine a before n after r = (line : List ℕ) × Line a [] line × Puts line before n after r × (length line ≤ lineRoom)
 
 -- what is printed of the next record, how many bytes it has, and whether the run goes on
 abbrev pub ToldIs : Next → Answer → List ℕ → ℕ → List ℕ → Told → Type 0
@@ -66,3 +69,17 @@ pub record PlayedOn (s : State) (bytes before : List ℕ) (n : ℕ) (after : Lis
   pub printed : List ℕ
   pub plays : Plays s bytes printed
   pub put : Puts printed before n after r
+
+-- where the image of an input ends, as far as it is there, and whether all of it is
+pub record ExtentIs (input : List ℕ) (r : Extent) : Type 0 where
+  pub few : 2 + stated input ≤ longestFront
+  pub low : 2 ≤ r .end
+  pub within : r .end ≤ length input
+  pub whole : r .whole ≡ true → r .end ≡ 2 + stated input
+  pub short : r .whole ≡ false → (r .end ≡ length input) × (length input < 2 + stated input)
+
+-- whether what comes next can be played, or has to wait
+pub record MayPlay (enough : ℕ) (ends : Bool) (left room : ℕ) (r : Bool) : Type 0 where
+  pub has-room : r ≡ true → lineRoom ≤ room
+  pub has-bytes : r ≡ true → (ends ≡ true) ⊎ (enough ≤ left)
+  pub has-to-wait : r ≡ false → Waits enough ends left room

@@ -1,8 +1,10 @@
 pub mod Script
 pub mod Records
 pub mod Playing
+pub mod Windows
 pub mod Inner
 pub mod PlayLaws
 pub mod FillLaws
 pub mod Laws
 pub mod Bound
+pub mod WindowLaws

@@ -6,11 +6,10 @@ use Prim.Native.Nat.{ℕ, _+_, _-_, _<_, _≤_}
 use native.Mathlib.Omega.{arith}
 use lib.ListN.{length, getD, take, drop}
 use Rattle.policy.specs.declared.State.{State}
-use Rattle.gate.specs.Effects.{Tells, after}
+use Rattle.gate.specs.Effects.{Tells}
 use Rattle.script.specs.declared.Played.{Played}
-use Rattle.script.specs.declared.Next.{Next}
-use Rattle.script.specs.declared.Next.the-variants.{Ended, Cut, Whole}
-use Rattle.script.specs.Playing.{NoRecord, NoCall, NextIs, bytesOf, PlayedIs}
+use Rattle.script.specs.declared.Next.the-variants.{Ended, Cut}
+use Rattle.script.specs.Playing.{NoRecord, NoCall, NextIs, PlayedIs}
 use Rattle.script.specs.Inner.{secondAt, endAt, firstOf, secondOf, Stored, Bounded}
 
 module _ (s : State) (bs : List ℕ) (r : Played) (u : Tells s (λ o. NoCall s (o .answer) (o .state)) (r .effect)) where
@@ -22,15 +21,6 @@ module _ (s : State) (bs : List ℕ) (r : Played) (u : Tells s (λ o. NoCall s (
 
   pub says-ended : r .next ≡ Ended → bs ≡ [] → PlayedIs s bs r
   says-ended e z = record { within = u .within; is = subst (NextIs s bs _ _) (sym e) (z, u .is) }
-
--- a record has no more bytes than there are
-pub few-bytes : (s : State) (bs : List ℕ) (r : Played) → PlayedIs s bs r → bytesOf (r .next) ≤ length bs
-few-bytes s bs r p = go (r .next) (p .is)
-  where
-    go : (n : Next) → NextIs s bs (r .effect .answer) (after s (r .effect)) n → bytesOf n ≤ length bs
-    go Ended e = omega arith
-    go Cut e = omega arith
-    go (Whole n) e = e .4
 
 -- what is known of a record 04 or 05 whose bytes are all there
 pub record Parts (bs : List ℕ) (mid end : ℕ) : Type 0 where

@@ -30,12 +30,6 @@ NextIs s bs a t Ended = (bs ≡ []) × NoCall s a t
 NextIs s bs a t Cut = (bs ≡ [] → ⊥) × NoRecord bs × NoCall s a t
 NextIs s bs a t (Whole n) = (q : Request) × IsRecord bs q (drop n bs) × Step s q a t × (0 < n) × (n ≤ length bs)
 
--- how many bytes the next record has
-abbrev pub bytesOf : Next → ℕ
-bytesOf Ended = 0
-bytesOf Cut = 0
-bytesOf (Whole n) = n
-
 -- so the next record was played
 abbrev pub PlayedIs : State → List ℕ → Played → Type 0
 PlayedIs s bs r = Tells s (λ o. NextIs s bs (o .answer) (o .state) (r .next)) (r .effect)

@@ -23,6 +23,10 @@ pub data IsRecord : List ℕ → Request → List ℕ → Type 0 where
   a-bypass : {slot file mode : ℕ} {x y rest : List ℕ}
       → IsRecord (5 ∷ slot ∷ file ∷ mode ∷ (expressionBytes x ++ (expressionBytes y ++ rest))) (bypass slot file mode x y) rest
 
+-- the most bytes that a record has: a code and three numbers, and twice a length byte and 255 bytes
+abbrev pub longestRecord : ℕ
+longestRecord = 516
+
 -- `cut` and a line end
 abbrev pub cutLine : List ℕ
 cutLine = 99 ∷ 117 ∷ 116 ∷ 10 ∷ []
@@ -41,6 +45,10 @@ stated input = lowFirst (getD input 0 0) (getD input 1 0)
 
 abbrev pub imageIn : List ℕ → List ℕ
 imageIn input = take (stated input) (drop 2 input)
+
+-- the most bytes before the records: two that state a length, and an image of the largest
+abbrev pub longestFront : ℕ
+longestFront = 65537
 
 -- what the whole input prints: under two bytes, `cut`; else the line of the load into the fresh state, and then, where the image was all there, what
 -- the records print from the state that the load left

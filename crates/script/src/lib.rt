@@ -11,7 +11,8 @@ ghost use Rattle.gate.specs.Effects.{Tells};
 ghost use Rattle.machine.specs.Machine.{Step};
 ghost use Rattle.script.specs.Script.{Replays};
 ghost use Rattle.script.specs.Playing.{NoCall, PlayedIs};
-ghost use Rattle.script.specs.Inner.{storeOf, Bounded, Puts, PutsLine, ToldIs, PlayedOn};
+ghost use Rattle.script.specs.Windows.{atFront, WindowIs, Fronted};
+ghost use Rattle.script.specs.Inner.{storeOf, Bounded, Puts, PutsLine, ToldIs, PlayedOn, ExtentIs, MayPlay};
 
 // The codes of the records.
 pub const BEGIN: u8 = 1;
@@ -23,6 +24,15 @@ pub const ASK: u8 = 3;
 pub const CHANGE: u8 = 4;
 
 pub const BYPASS: u8 = 5;
+
+// The most bytes that a record has: a code and three numbers, and twice a length byte and 255 bytes.
+const LONGEST_RECORD: usize = 516;
+
+// The most bytes before the records: two that state a length, and an image of the largest.
+const LONGEST_FRONT: usize = 65537;
+
+// The bytes of a window that a program reads its input by: more than any that have to be there at once.
+pub const WINDOW: usize = 131072;
 
 // What stands next in the input: nothing; a broken-off or unknown record; or a whole record of so many bytes.
 pub enum Next {
@@ -49,6 +59,22 @@ struct Bounds {
     whole: bool,
     mid: usize,
     end: usize,
+}
+
+// Where the image of an input ends, as far as it is there, and whether all of it is.
+struct Extent {
+    end: usize,
+    whole: bool,
+}
+
+// How far a replay came: whether its image was loaded, and the state; of its last window, how many bytes were used, how many
+// were printed, and whether the run goes on.
+pub struct Windowed {
+    pub loaded: bool,
+    pub state: State,
+    pub used: usize,
+    pub n: usize,
+    pub more: bool,
 }
 
 fn wide(x: u8) -> usize
@@ -295,6 +321,24 @@ fn fewer(a: usize, b: usize) -> usize
     if a < b { a } else { b }
 }
 
+// Where the image of an input ends: as many bytes on as the first two say, or at the input's end.
+fn image_extent(input: &[u8]) -> Extent
+    requires { ⌜ 2 ≤ length (now input) ⌝ }
+    ensures { λ r. ⌜ ExtentIs (now (input .entry)) r ⌝ }
+{
+    let stated = fields::low_first(input[0], input[1]);
+    if input.len() - 2 < stated {
+        return Extent {
+            end: input.len(),
+            whole: false,
+        };
+    }
+    Extent {
+        end: 2 + stated,
+        whole: true,
+    }
+}
+
 // A whole replay input, from the fresh state, into an output: how much is printed, or one more than the room where it does not fit.
 pub fn run(input: &[u8], out: &mut [u8]) -> usize
     ensures { λ r. ⌜ Replays (now (input .entry)) (now (out .entry)) (now (out .exit)) r ⌝ }
@@ -302,14 +346,140 @@ pub fn run(input: &[u8], out: &mut [u8]) -> usize
     if input.len() < 2 {
         return put_all(out, 0, b"cut\n");
     }
-    let stated = fields::low_first(input[0], input[1]);
-    let have = fewer(stated, input.len() - 2);
-    let end = 2 + have;
+    let extent = image_extent(input);
+    let end = extent.end;
     let loaded = image::load(State::fresh(), &input[2..end]);
     let n = put_line(out, 0, loaded.answer);
-    if have < stated {
+    if !extent.whole {
         return n;
     }
     let state = loaded.state;
     play_all(state, input, end, out, n)
+}
+
+// Whether what comes next can be played: so many bytes are left, or all that there are, and the output has room for a line.
+fn may_play(enough: usize, ends: bool, left: usize, room: usize) -> bool
+    ensures { λ r. ⌜ MayPlay enough ends left room r ⌝ }
+{
+    if room < lines::PRINTED {
+        return false;
+    }
+    if ends {
+        return true;
+    }
+    if left < enough {
+        return false;
+    }
+    true
+}
+
+// The front of the input: the image is loaded, as far as it is there. Under two bytes of length print `cut`.
+fn play_front(s: State, window: &[u8], ends: bool, out: &mut [u8]) -> Windowed
+    ensures { λ r. ⌜ WindowIs false s (now (window .entry)) ends (now (out .entry)) (now (out .exit)) r ⌝ }
+{
+    let mut w = Windowed {
+        loaded: false,
+        state: s,
+        used: 0,
+        n: 0,
+        more: true,
+    };
+    if !may_play(LONGEST_FRONT, ends, window.len(), out.len()) {
+        return w;
+    }
+    if window.len() < 2 {
+        w.n = put_all(out, 0, b"cut\n");
+        w.more = false;
+        return w;
+    }
+    let extent = image_extent(window);
+    let end = extent.end;
+    let loaded = image::load(State::fresh(), &window[2..end]);
+    let n = put_line(out, 0, loaded.answer);
+    let state = loaded.state;
+    Windowed {
+        loaded: true,
+        state,
+        used: end,
+        n,
+        more: extent.whole,
+    }
+}
+
+// The records at the front of a window, one after another, while the next one is decided and its line has room.
+fn play_records(state: State, window: &[u8], ends: bool, out: &mut [u8]) -> Windowed
+    ensures { λ r. ⌜ WindowIs true state (now (window .entry)) ends (now (out .entry)) (now (out .exit)) r ⌝ }
+{
+    let mut s = state;
+    let mut at = 0;
+    let mut n = 0;
+    while may_play(LONGEST_RECORD, ends, window.len() - at, out.len() - n) {
+        let played = play(s, &window[at..]);
+        let next = played.next;
+        let gave = played.effect;
+        let answer = gave.answer;
+        let told = tell(out, n, next, answer);
+        n = told.n;
+        if !told.more {
+            return Windowed {
+                loaded: true,
+                state: s,
+                used: at,
+                n,
+                more: false,
+            };
+        }
+        at += told.used;
+        let slots = gave.slots;
+        let i = gave.at;
+        let file = gave.file;
+        s.slots = slots;
+        s.files[i] = file;
+    }
+    Windowed {
+        loaded: true,
+        state: s,
+        used: at,
+        n,
+        more: true,
+    }
+}
+
+// A replay before its first window.
+pub fn at_front() -> Windowed
+    ensures { λ r. ⌜ r ≡ atFront ⌝ }
+{
+    Windowed {
+        loaded: false,
+        state: State::fresh(),
+        used: 0,
+        n: 0,
+        more: true,
+    }
+}
+
+// The next window of the input, which starts where the last one was used up to: what it prints, and how far the replay came.
+pub fn play_window(w: Windowed, window: &[u8], ends: bool, out: &mut [u8]) -> Windowed
+    ensures { λ r. ⌜ WindowIs (w .loaded) (w .state) (now (window .entry)) ends (now (out .entry)) (now (out .exit)) r ⌝ }
+{
+    let state = w.state;
+    if w.loaded {
+        return play_records(state, window, ends, out);
+    }
+    play_front(state, window, ends, out)
+}
+
+// The bytes of a window from `at` to n, as far as they are there, go to its front: how many they are.
+pub fn to_front(window: &mut [u8], at: usize, n: usize) -> usize
+    ensures { λ r. ⌜ Fronted (now (window .entry)) at n (now (window .exit)) r ⌝ }
+{
+    let end = fewer(n, window.len());
+    let from = fewer(at, end);
+    let held = end - from;
+    let mut i = 0;
+    while i < held {
+        window[i] = window[from + i];
+        i += 1;
+    }
+    held
 }

@@ -1,5 +1,6 @@
 -- `script::put_line` meets its contract: the line is printed apart, and then written. Assumes nothing.
 use mathlib.Core.Path.{sym}
+use native.Mathlib.Omega.{arith}
 use Rattle.script.specs.FillLaws.{puts-line}
 use lib.Seq.{length-take-le}
 use borrow.Author.Needs.{needs}
@@ -25,7 +26,9 @@ same-length : tie.Need-same-length
 same-length c = search needs
 
 returns : tie.Need-returns
-returns c = puts-line _ _ _ _ _ _ _ _ (c .before .before .before .before .before .before .print .ensures) (c .before .before .put-all .ensures)
+returns c =
+    let print = c .before .before .before .before .before .before .print in
+    puts-line _ _ _ _ _ _ _ _ (print .ensures) (omega (arith, print .kept .1 .1 .1 .0)) (c .before .before .put-all .ensures)
 
 pub put-line-spec : {M : Type 1} → statement M
 put-line-spec =
