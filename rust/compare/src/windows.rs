@@ -7,7 +7,7 @@ use std::collections::BTreeMap;
 use twin::image::Policy;
 
 /// The window of the program, and the part of the run that inputs are drawn for.
-const WINDOW: usize = 65_536;
+const WINDOW: usize = 131_072;
 const PART: usize = 101;
 
 /// The longest record: a code, three numbers, and twice a length byte with 255 bytes.
@@ -122,10 +122,10 @@ fn said(reached: &Reached) -> Result<String, String> {
             return Err(format!("a record of {length} bytes, {name}: {input} and {records} times over a window's end, not {}", length - 1));
         }
         said += &format!(
-            "{input:>9}  a record of {length} bytes over byte 65,536 of the input, {name}\n"
+            "{input:>9}  a record of {length} bytes over byte 131,072 of the input, {name}\n"
         );
         said += &format!(
-            "{records:>9}  over byte 65,536 of its records ({count} inputs, {lines} lines)\n"
+            "{records:>9}  over byte 131,072 of its records ({count} inputs, {lines} lines)\n"
         );
         inputs += count;
     }
