@@ -34,13 +34,13 @@ pub fn compare(path: &str, seed: u64) -> Result<String, String> {
     ))
 }
 
-/// An input: one in four is short, the others have up to 250,000 bytes of records; one in three is
+/// An input: one in four is short, the others have up to 600,000 bytes of records; one in three is
 /// cut off somewhere, one in three has a drawn byte put in.
 fn drawn(draw: &mut Draw, round: usize) -> Vec<u8> {
     let policy = policies::rich(draw);
     let long = match round % 4 {
         0 => draw.below(200),
-        _ => 60_000 + draw.below(190_000),
+        _ => 100_000 + draw.below(500_000),
     };
     let mut records = Vec::new();
     while records.len() < long {
