@@ -91,12 +91,12 @@ module _ {s : State} {role file : ℕ} {v m b t e : List ℕ} (r : RoleParts s r
   }
 
 -- a state with four files in which slot 0 is held by the role
-pub record Held (s : State) (role : ℕ) : Type 0 where
+pub record InSession (s : State) (role : ℕ) : Type 0 where
   pub well-formed : WellFormed s
   pub held : holdOf s 0 ≡ By role
   pub counted : s .nfiles ≡ 4
 
-module _ {s : State} {role : ℕ} (h : Held s role) where
+module _ {s : State} {role : ℕ} (h : InSession s role) where
   pub session : SessionGranted s 0
   session = record { well-formed = h .well-formed; known = lit< tt; taken = λ e. free-held (sym e ∙ h .held) }
 
@@ -124,7 +124,7 @@ module _ {s : State} {role : ℕ} (h : Held s role) where
       asked-write q = asked write (lit< tt) (writes-row r f) (writes-mediated r f q)
 
 -- the sample held by one of its roles
-pub held-is : (role : ℕ) → role < 3 → Held (heldBy role) role
+pub held-is : (role : ℕ) → role < 3 → InSession (heldBy role) role
 held-is role h = record {
   well-formed = by-kept sample sample-well-formed 0 role (lit< tt) (rw (sample-counts .0) h);
   held = hold-here sample (sample-well-formed .room) 0 (By role) (lit< tt);
@@ -332,7 +332,7 @@ pub record ABypassBreaksItForTheLoadedState : Type 0 where
   pub last-passed : PassesWithNothing sample 2
   pub first-not-passed : PassesWithNothing sample 0 → ⊥
 
-raised-held : Held raised 0
+raised-held : InSession raised 0
 raised-held =
     let h = held-is 0 (lit< tt) in
     record {
