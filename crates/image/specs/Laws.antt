@@ -15,10 +15,10 @@ use Rattle.fields.specs.Document.{Answers}
 use Rattle.fields.specs.Loads.{one-answer}
 use Rattle.fields.specs.Loads as document
 use Rattle.image.specs.declared.Loaded.{Loaded}
-use Rattle.image.specs.Image.{Policy, policyImage, inUse, image}
+use Rattle.image.specs.Image.{Policy, policyImage, inUse, image, longestImage}
 use Rattle.image.specs.Load.{stateOf, Loads}
 use Rattle.image.specs.Made.{state-well-formed}
-use Rattle.image.specs.Bounds.{one-digit}
+use Rattle.image.specs.Bounds.{one-digit, image-place}
 
 -- an image is the image of one policy
 pub one-policy : (bytes : List ℕ) (p q : Policy) → image .Takes bytes p → image .Takes bytes q → p ≡ q
@@ -85,3 +85,11 @@ load-inside {a} bs before after l = go (l .answers)
     go : Answers image bs a → (a .number < 10) × (a .place ≤ length bs)
     go (inl (v, i)) = (omega (arith, i .number), omega (arith, i .place))
     go (inr f) = (one-digit inUse bs (a .number) (a .place) f, image .inside bs (a .number) (a .place) f .1)
+
+-- and its place is no further on than the longest image
+pub load-place : {a : Answer} (bs : List ℕ) (before after : State) → Loads bs before (record { answer = a; state = after }) → a .place ≤ longestImage
+load-place {a} bs before after l = go (l .answers)
+  where
+    go : Answers image bs a → a .place ≤ longestImage
+    go (inl (v, i)) = omega (arith, i .place)
+    go (inr f) = image-place bs (a .number) (a .place) f

@@ -1,4 +1,4 @@
--- An answer to a text has a small place, so it can be read off its one number; and there is one. Assumes nothing.
+-- An answer to a text has a small place, so it fits one number; and there is one. Assumes nothing.
 use mathlib.Core.Path.{_≡_, sym, ap, _∙_, subst}
 use mathlib.Core.List.{List}
 use mathlib.Core.Logic.{inl, inr}
@@ -10,7 +10,8 @@ use Rattle.answer.specs.Answers.{Decides, Leaves}
 use Rattle.text.specs.Turn.{textConditions, textGrants, textMakes}
 use Rattle.text.specs.Complete.{one-reading}
 use Rattle.text.specs.Laws.{one-text-answer, one-text-output}
-use Rattle.loafawning.specs.Exported.{packed, Turns}
+use Rattle.door.specs.Box.{packed}
+use Rattle.loafawning.specs.Exported.{Turns}
 
 -- a number below 256, and a place of at most 512
 pub small : (text : List ℕ) (room : ℕ) (a : Answer) → Decides (textConditions text room) (textGrants text) a → (a .number < 256) × (a .place ≤ 512)
@@ -19,10 +20,6 @@ small text room a (inr (h, inl (n, e, inl w))) = (omega arith, omega (arith, w .
 small text room a (inr (h, inl (n, e, inr w))) = (omega arith, omega (arith, w .0, w .1 .within))
 small text room a (inr (h, inr (r, inl p))) = (omega (arith, p .1), omega (arith, p .2))
 small text room a (inr (h, inr (r, inr ((b, g, l), (e, (c, k, m)))))) = (omega arith, omega (arith, l, m, ap length (one-reading g k)))
-
--- from the one number the answer can be read off
-pub one-packed : (a b : Answer) → a .number < 256 → b .number < 256 → packed a ≡ packed b → (a .number ≡ b .number) × (a .place ≡ b .place)
-one-packed a b h k e = (omega arith, omega arith)
 
 -- for every text and every output there is one number, and one output after it
 pub one-turn : {text before x y : List ℕ} {r s : ℕ} → Turns text before x r → Turns text before y s → (r ≡ s) × (x ≡ y)

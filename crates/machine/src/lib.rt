@@ -27,7 +27,7 @@ pub struct Served {
 }
 
 // What a request other than load comes to: the gate's function for its code.
-fn effect_of(s: State, code: u8, slot: u8, a: u8, b: u8, x: &[u8], y: &[u8]) -> Effect
+pub fn effect_of(s: State, code: u8, slot: u8, a: u8, b: u8, x: &[u8], y: &[u8]) -> Effect
     requires { ⌜ 0 < code ⌝ }
     ensures { λ r. ⌜ Tells s (λ o. Step s (requestOf code slot a b (now (x .entry)) (now (y .entry))) (o .answer) (o .state)) r ⌝ }
 {

@@ -1,0 +1,4 @@
+pub mod Box
+pub mod Inner
+pub mod Laws
+pub mod Calls

@@ -1,0 +1,4 @@
+pub mod Records
+pub mod Walk
+pub mod Laws
+pub mod Places
