@@ -16,3 +16,5 @@ pub mod Examples
 pub mod Programs
 pub mod ProgramLaws
 pub mod Empty
+pub mod Boxes
+pub mod BoxLaws
