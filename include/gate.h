@@ -1,10 +1,16 @@
 /*
  * The gate, for C and C++. Link with libloafawning.a (`rt staticlib loafawning`); x86-64.
  *
- * Every function is proved to return, whatever bytes it is given, with the one answer that the
- * rules leave, and keeps nothing between calls. What the caller owes: a pointer is never null, also
- * where its length is 0; it has as many bytes as the length beside it says; and no `out` overlaps
- * an input.
+ * Every function of the library is proved to return, whatever bytes it is given, with the one
+ * answer that the rules leave. Those that are written out here (`static inline`) build records for
+ * it and take answers apart; they are tested, and not proved.
+ *
+ * What the caller owes: a pointer is never null, also where its length is 0, but for the
+ * expressions of gate_change and gate_bypass; it has as many bytes as the length beside it says;
+ * and nothing that is lent to be written, a box or an `out`, overlaps anything else that is lent.
+ *
+ * Threads: the library has no variable of its own and takes no lock. A box is one thread's at a
+ * time: whoever shares one locks it, for an ask as well. Calls on different boxes need no lock.
  */
 #ifndef LOAFAWNING_GATE_H
 #define LOAFAWNING_GATE_H
@@ -16,13 +22,21 @@
 extern "C" {
 #endif
 
+/* The version of this header and of the library, as a text and as numbers. */
+#define GATE_VERSION "0.1.0"
+#define GATE_VERSION_MAJOR 0
+#define GATE_VERSION_MINOR 1
+#define GATE_VERSION_PATCH 0
+
 /* ---- Answers ------------------------------------------------------------------------------- */
 
 /*
  * An answer is a number and a place, packed as number + 256 * place. The place is 0 where the
- * table names none.
+ * table names none, and never over GATE_LONGEST_IMAGE.
  */
-enum gate_answer {
+typedef uint64_t gate_answer;
+
+enum gate_numbers {
     GATE_DONE = 0,             /* done or granted; of a text: the place is the count of bytes    */
     GATE_MARK_WRONG = 1,       /* mark wrong; the first wrong byte                               */
     GATE_VERSION_WRONG = 2,    /* version not 1; 3                                               */
@@ -47,24 +61,224 @@ enum gate_answer {
                                   the text's length; 512 where the text is longer than that      */
     GATE_TEXT_LONG = 19,       /* text makes over 48 bytes                                       */
     GATE_BUFFER_SHORT = 20,    /* output buffer under 48 bytes                                   */
+    GATE_NO_RECORD = 255       /* no record: of gate_serve alone, and not of the rules' table    */
 };
 
-/* The number of a packed answer, one of enum gate_answer. */
-static inline uint32_t gate_number(uint32_t answer) { return answer % 256; }
+/* The number of an answer, one of enum gate_numbers. */
+static inline uint32_t gate_number(gate_answer answer) { return (uint32_t)(answer % 256); }
 
-/* The place of a packed answer. */
-static inline uint32_t gate_place(uint32_t answer) { return answer / 256; }
+/* The place of an answer. */
+static inline uint32_t gate_place(gate_answer answer) { return (uint32_t)(answer / 256); }
+
+/* Whether the call was done or granted: 1 or 0. Only number 0 says so. */
+static inline int gate_granted(gate_answer answer) { return gate_number(answer) == GATE_DONE; }
+
+/* The rules' words for a number. */
+static inline const char *gate_words(uint32_t number) {
+    switch (number) {
+    case GATE_DONE: return "done or granted";
+    case GATE_MARK_WRONG: return "mark wrong";
+    case GATE_VERSION_WRONG: return "version not 1";
+    case GATE_ENDS_EARLY: return "image ends early";
+    case GATE_COUNT_WRONG: return "count out of range";
+    case GATE_PARENT_WRONG: return "parent not smaller";
+    case GATE_EXPRESSION_WRONG: return "expression wrong";
+    case GATE_LEFT_OVER: return "bytes left over";
+    case GATE_NO_SLOT: return "slot number over 15";
+    case GATE_SLOT_FREE: return "slot free";
+    case GATE_SLOT_TAKEN: return "slot taken";
+    case GATE_NO_ROLE: return "no such role";
+    case GATE_NO_FILE: return "no such file";
+    case GATE_NO_MODE: return "no such mode";
+    case GATE_ROW_NOT_PASSED: return "row not passed";
+    case GATE_MEDIATING_UNFIT: return "mediating sets don't fit";
+    case GATE_BYPASS_LACKS: return "bypass set lacks a securon";
+    case GATE_ILL_FORMED: return "state not well formed";
+    case GATE_TEXT_WRONG: return "text wrong";
+    case GATE_TEXT_LONG: return "text makes over 48 bytes";
+    case GATE_BUFFER_SHORT: return "output buffer under 48 bytes";
+    case GATE_NO_RECORD: return "no record";
+    default: return "no number of the table";
+    }
+}
+
+/* ---- Rooms and limits ---------------------------------------------------------------------- */
+
+/* The modes, and how many there are. */
+#define GATE_READ 0
+#define GATE_WRITE 1
+#define GATE_EXECUTE 2
+#define GATE_DETECT 3
+#define GATE_CHANGE_PROTECTION 4
+#define GATE_MODES 5
+
+/* How much there can be of each. */
+#define GATE_SLOTS 16              /* numbered from 0, as roles, files and securons are          */
+#define GATE_MOST_ROLES 32         /* of a policy                                                */
+#define GATE_MOST_FILES 32         /* of a policy                                                */
+#define GATE_MOST_SECURONS 64      /* of a policy's tree                                         */
+#define GATE_LONGEST_EXPRESSION 48 /* in bytes, as all that follow                               */
+#define GATE_LONGEST_TEXT 512      /* the text of an expression; a longer one is refused         */
+#define GATE_LONGEST_IMAGE 51815   /* a longer one is refused                                    */
+#define GATE_LONGEST_RECORD 65538  /* a load of 65,535 bytes; a longer one is no record          */
 
 /* ---- The stack ----------------------------------------------------------------------------- */
 
 /*
  * No call uses a heap. A thread whose stack has this many bytes has enough for the call: measured
- * on the worst inputs that were found (a text of 512 opening parentheses needs 541 KB, the longest
- * image and its requests 231 KB), with a margin, and tested in such a thread (tests/c/stack.c).
- * That is not proved.
+ * on the worst inputs that were found (a text of 512 opening parentheses needs 541 KB; the longest
+ * image and its requests 321 KB in a replay, 267 KB on a box), with a margin, and tested in such a
+ * thread (tests/c/stack.c). That is not proved.
  */
-#define GATE_TEXT_STACK 655360
-#define GATE_REPLAY_STACK 327680
+#define GATE_TEXT_STACK 655360   /* gate_text                                                    */
+#define GATE_REPLAY_STACK 393216 /* gate_replay                                                  */
+#define GATE_BOX_STACK 327680    /* every call on a box                                          */
+
+/* ---- The box ------------------------------------------------------------------------------- */
+
+/*
+ * A box holds the state: the tree, roles, files and slots. It lies where the caller puts it, and
+ * each call alters it there; a refused call leaves all of it as it was. It holds numbers alone and
+ * no pointer, so that it may be copied and moved as any struct. What is in it is for the calls
+ * below, and may be laid out otherwise in another version.
+ *
+ * Any memory of this size is a state, and every call on it ends with a defined answer. On a state
+ * that is not well formed no request is granted: zeroed memory, such as a static box at the start,
+ * answers every request with 17 until gate_fresh or a granted load.
+ */
+#define GATE_BOX_SIZE 51864
+#define GATE_BOX_ALIGN 8
+
+typedef struct gate_box {
+    uint64_t kept[GATE_BOX_SIZE / 8];
+} gate_box;
+
+/*
+ * The size and the alignment that the library takes a box to have, and lengths of 64 bits, held to
+ * here: an array of -1 elements is an error in every C and C++.
+ */
+struct gate_box_after_a_byte {
+    char byte;
+    gate_box box;
+};
+typedef char gate_box_has_its_size[sizeof(gate_box) == GATE_BOX_SIZE ? 1 : -1];
+typedef char gate_box_has_its_align[offsetof(struct gate_box_after_a_byte, box) == GATE_BOX_ALIGN ? 1 : -1];
+typedef char gate_lengths_have_64_bits[sizeof(size_t) == 8 ? 1 : -1];
+
+/*
+ * The refusals of each call, in the order in which they are judged; the first that applies is the
+ * answer, and 0 if none does.
+ *
+ *   load     1 2 3 4 5 6 7, as they are met from the front of the image; the box is not examined
+ *   begin    17 8 10 11
+ *   end      17 8 9
+ *   ask      17 8 9 12 13 14 15
+ *   change   17 8 9 12 13 14 6
+ *   bypass   17 8 9 12 13 14 6 16
+ */
+
+/* Makes a box fresh, whatever it held: the root alone, no role, no file, all slots free. */
+void gate_fresh(gate_box *box);
+
+/* Loads a policy image, whatever the box held: replaces all of it, and frees every slot. */
+gate_answer gate_load(gate_box *box, const uint8_t *image, size_t image_len);
+
+/*
+ * Makes the call of one record, which is there whole and with nothing after it:
+ *
+ *   begin    01 slot role
+ *   end      02 slot
+ *   ask      03 slot file mode
+ *   change   04 slot file mode, a length byte and T1, a length byte and T2
+ *   bypass   05 slot file mode, a length byte and E, a length byte and G
+ *   load     06, a length of 16 bits with its low byte first, an image
+ *
+ * Any other bytes are no record: 255 at place 0, and nothing is altered. No record gives bytes out
+ * yet: `out`, of any length, is left as it was.
+ */
+gate_answer gate_serve(gate_box *box, const uint8_t *record, size_t record_len, uint8_t *out, size_t out_len);
+
+/* The codes of the records. */
+#define GATE_BEGIN 1
+#define GATE_END 2
+#define GATE_ASK 3
+#define GATE_CHANGE 4
+#define GATE_BYPASS 5
+#define GATE_LOAD 6
+
+/* ---- Requests as calls --------------------------------------------------------------------- */
+
+/* The parts that gate_begin, gate_end, gate_ask, gate_change and gate_bypass are made of. */
+
+/*
+ * The number of a slot, role, file or mode as a byte of a record. There is none with the number
+ * 255, so that 255 stands for every number over it, and is refused as that one is to be.
+ */
+static inline uint8_t gate_byte(size_t number) { return (uint8_t)(number < 255 ? number : 255); }
+
+/* Makes the call of a record that gives nothing out. */
+static inline gate_answer gate_call(gate_box *box, const uint8_t *record, size_t record_len) {
+    uint8_t none = 0;
+    return gate_serve(box, record, record_len, &none, 0);
+}
+
+/*
+ * Puts an expression after the first `used` bytes of a record, and returns how many it has then.
+ * One of over 48 bytes is refused by its length alone, before any byte of it is looked at, and with
+ * the same place whatever the length is. So its first 49 bytes stand for all of it, also where a
+ * length byte could not say how many there are.
+ */
+static inline size_t gate_put(uint8_t *record, size_t used, const uint8_t *bytes, size_t length) {
+    size_t count = length <= GATE_LONGEST_EXPRESSION ? length : GATE_LONGEST_EXPRESSION + 1;
+    record[used] = (uint8_t)count;
+    for (size_t k = 0; k < count; k++) record[used + 1 + k] = bytes[k];
+    return used + 1 + count;
+}
+
+/* A change or a bypass, by its code. */
+static inline gate_answer gate_store(gate_box *box, uint8_t code, size_t slot, size_t file, size_t mode,
+                                     const uint8_t *first, size_t first_length, const uint8_t *second,
+                                     size_t second_length) {
+    uint8_t record[4 + 2 * (GATE_LONGEST_EXPRESSION + 2)] = {code, gate_byte(slot), gate_byte(file), gate_byte(mode)};
+    size_t used = gate_put(record, 4, first, first_length);
+    return gate_call(box, record, gate_put(record, used, second, second_length));
+}
+
+/* The calls. A number that is too large is refused as what it is, also where no byte holds it. */
+
+/* Begins a session of a role on a free slot. */
+static inline gate_answer gate_begin(gate_box *box, size_t slot, size_t role) {
+    const uint8_t record[3] = {GATE_BEGIN, gate_byte(slot), gate_byte(role)};
+    return gate_call(box, record, sizeof record);
+}
+
+/* Ends the session on a slot. */
+static inline gate_answer gate_end(gate_box *box, size_t slot) {
+    const uint8_t record[2] = {GATE_END, gate_byte(slot)};
+    return gate_call(box, record, sizeof record);
+}
+
+/* Whether the session on a slot may act so on a file: granted, or why not. Alters nothing. */
+static inline gate_answer gate_ask(gate_box *box, size_t slot, size_t file, size_t mode) {
+    const uint8_t record[4] = {GATE_ASK, gate_byte(slot), gate_byte(file), gate_byte(mode)};
+    return gate_call(box, record, sizeof record);
+}
+
+/*
+ * Stores T1 and T2 in a file's row of that mode: the bytes of two expressions, such as gate_text
+ * makes. Here and in gate_bypass an expression of length 0 may be a null pointer, and one of any
+ * length over 48 is wrong at place 48, or at 304 if it is the second.
+ */
+static inline gate_answer gate_change(gate_box *box, size_t slot, size_t file, size_t mode, const uint8_t *t1,
+                                      size_t t1_length, const uint8_t *t2, size_t t2_length) {
+    return gate_store(box, GATE_CHANGE, slot, file, mode, t1, t1_length, t2, t2_length);
+}
+
+/* Stores E and G in a file's row of that mode. */
+static inline gate_answer gate_bypass(gate_box *box, size_t slot, size_t file, size_t mode, const uint8_t *e,
+                                      size_t e_length, const uint8_t *g, size_t g_length) {
+    return gate_store(box, GATE_BYPASS, slot, file, mode, e, e_length, g, g_length);
+}
 
 /* ---- Whole inputs and texts ---------------------------------------------------------------- */
 
@@ -75,16 +289,8 @@ static inline uint32_t gate_place(uint32_t answer) { return answer / 256; }
  * not fit; then `out` has its first `out_len` bytes. An output never has more than
  * 4 + 3 * input_len bytes, which is proved too.
  *
- * A line of the output is a number, a space and a place, or `cut`. By the call that it answers:
- *
- *   load     0 1 2 3 4 5 6 7
- *   begin    0 8 10 11
- *   end      0 8 9
- *   ask      0 8 9 12 13 14 15
- *   change   0 6 8 9 12 13 14
- *   bypass   0 6 8 9 12 13 14 16
- *
- * 17, which every request judges first, is never printed: every state of a replay is well formed.
+ * A line of the output is a number, a space and a place, or `cut`. 17 is never printed: every state
+ * of a replay is well formed.
  */
 size_t gate_replay(const uint8_t *input, size_t input_len, uint8_t *out, size_t out_len);
 

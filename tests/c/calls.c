@@ -1,58 +1,10 @@
 /*
- * Both calls from C and from C++, on answers by hand from the scope paper: refusals that alter
- * nothing, cut records, and rooms of every length. Inputs and rooms end where no byte may be
- * touched, as the library itself is not compiled with a sanitizer.
+ * Both calls on whole inputs and texts from C and from C++, on answers by hand from the scope
+ * paper: refusals that alter nothing, cut records, and rooms of every length.
  */
 #include "gate.h"
 
-#include <stdio.h>
-#include <stdlib.h>
-#include <string.h>
-#include <sys/mman.h>
-#include <unistd.h>
-
-#define FILL 0xa5
-#define MOST 4096
-
-static unsigned checks;
-
-/* Counts a check; one that does not hold ends the run. */
-static void check(int holds, const char *what, const char *of, size_t number) {
-    checks++;
-    if (holds) return;
-    printf("calls: %s: %s, %lu\n", of, what, (unsigned long)number);
-    exit(1);
-}
-
-/* MOST bytes, and a page after them that nobody may touch. */
-static uint8_t *edge(void) {
-    size_t page = (size_t)sysconf(_SC_PAGESIZE), size = (MOST + page - 1) / page * page;
-    void *all = mmap(NULL, size + page, PROT_READ | PROT_WRITE, MAP_PRIVATE | MAP_ANONYMOUS, -1, 0);
-    check(all != MAP_FAILED && mprotect((uint8_t *)all + size, page, PROT_NONE) == 0, "no memory", "edge", size);
-    return (uint8_t *)all + size - MOST;
-}
-
-static uint8_t *inputs, *rooms;
-
-/* An input whose last byte is the last that may be touched. */
-static const uint8_t *input_of(const char *bytes, size_t length) {
-    memcpy(inputs + MOST - length, bytes, length);
-    return inputs + MOST - length;
-}
-
-/* A room of that sort, filled as all before it is. */
-static uint8_t *room_of(size_t length) {
-    memset(rooms, FILL, MOST);
-    return rooms + MOST - length;
-}
-
-/* That the room has these bytes at its front, and that nothing else of it or before it was altered. */
-static void check_room(size_t room, const char *bytes, size_t count, const char *of) {
-    size_t front = MOST - room, end = front + count, k = 0;
-    check(memcmp(rooms + front, bytes, count) == 0, "the bytes made", of, room);
-    while (k < MOST && ((front <= k && k < end) || rooms[k] == FILL)) k++;
-    check(k == MOST, "a byte that was altered", of, k);
-}
+#include "edge.h"
 
 /* ---- Texts --------------------------------------------------------------------------------- */
 
@@ -129,7 +81,7 @@ static void replay(const char *bytes, size_t length, const char *printed) {
         size_t given = gate_replay(input_of(bytes, length), length, room_of(room), room);
         check(given == (room < whole ? room + 1 : whole), "the length", printed, given);
         check_room(room, printed, room < whole ? room : whole, printed);
-        check(memcmp(inputs + MOST - length, bytes, length) == 0, "the input", printed, room);
+        check(memcmp(last_of(inputs, length), bytes, length) == 0, "the input", printed, room);
     }
 }
 
@@ -179,8 +131,8 @@ static void cut_records(void) {
 }
 
 int main(void) {
-    inputs = edge();
-    rooms = edge();
+    inputs = edge(4096);
+    rooms = edge(4096);
     /* twice, as nothing is kept between calls */
     for (int round = 0; round < 2; round++) {
         granted_texts();

@@ -15,28 +15,41 @@
 #define MUCH (16u << 20)
 #define BELOW (4u << 20)
 
-/* A call and what it has to give. */
+/* A call and what it has to give: an answer, or what is printed. */
 struct call {
     const char *name;
-    int text;
+    enum { TEXT, REPLAY, FRESH, LOAD, RECORD } what;
     const uint8_t *input;
     size_t length;
     const char *printed;
-    uint32_t answer;
+    gate_answer answer;
 };
 
 static uint8_t out[4096];
+
+/* The box of a call, and what it holds before it. */
+static gate_box box, start;
 
 static void fail(const struct call *call, const char *why, size_t number) {
     printf("stack: %s: %s, %lu\n", call->name, why, (unsigned long)number);
     exit(1);
 }
 
+/* Makes a call that answers. */
+static gate_answer answer_of(const struct call *call) {
+    if (call->what == TEXT) return gate_text(call->input, call->length, out, 48);
+    box = start;
+    if (call->what == LOAD) return gate_load(&box, call->input, call->length);
+    if (call->what == RECORD) return gate_serve(&box, call->input, call->length, out, sizeof out);
+    gate_fresh(&box);
+    return GATE_DONE;
+}
+
 /* Makes the call, and looks at what it gives. */
 static void *make(void *given) {
     const struct call *call = (const struct call *)given;
-    if (call->text) {
-        uint32_t answer = gate_text(call->input, call->length, out, 48);
+    if (call->what != REPLAY) {
+        gate_answer answer = answer_of(call);
         if (answer != call->answer) fail(call, "the answer", answer);
         return NULL;
     }
@@ -66,22 +79,26 @@ static size_t touched(struct call *call, size_t size) {
 }
 
 /* Measures a call, and makes it in a stack that has what is stated and no more. */
-static void measure(struct call *call, size_t stated) {
+static size_t measure(struct call *call, size_t stated) {
     size_t need = touched(call, MUCH);
-    printf("stack: %7lu of %lu bytes: %s\n", (unsigned long)need, (unsigned long)stated, call->name);
     if (stated - stated / 8 < need) fail(call, "more than seven eighths of what is stated", need);
     touched(call, stated);
+    return need;
+}
+
+static void say(const char *name, size_t need, size_t stated) {
+    printf("stack: %7lu of %lu bytes: %s\n", (unsigned long)need, (unsigned long)stated, name);
 }
 
 /* ---- Texts --------------------------------------------------------------------------------- */
 
 /* So many bytes of `front`, over and over, and `last`: 512 at most. */
-static void text(const char *name, const char *front, size_t length, const char *last, uint32_t answer) {
+static void text(const char *name, const char *front, size_t length, const char *last, gate_answer answer) {
     static uint8_t bytes[512];
-    struct call call = {name, 1, bytes, length + strlen(last), "", answer};
+    struct call call = {name, TEXT, bytes, length + strlen(last), "", answer};
     for (size_t k = 0; k < length; k++) bytes[k] = (uint8_t)front[k % strlen(front)];
     memcpy(bytes + length, last, strlen(last));
-    measure(&call, GATE_TEXT_STACK);
+    say(name, measure(&call, GATE_TEXT_STACK), GATE_TEXT_STACK);
 }
 
 static void texts(void) {
@@ -98,8 +115,6 @@ static void texts(void) {
 
 /* ---- Replays ------------------------------------------------------------------------------- */
 
-#define LONGEST_IMAGE 51815
-
 /* Two ranges and thirteen securons under 14 AND, 48 bytes; and sixteen securons under 15, the deepest. */
 static const uint8_t wide[48] = {3, 3, 3, 3, 3, 3, 3, 3, 3, 3, 3, 3, 3, 3, 2, 63, 0, 63, 2, 0, 63, 63, 1, 0,
                                  1, 1, 1, 62, 1, 63, 1, 5, 1, 5, 1, 5, 1, 5, 1, 5, 1, 5, 1, 5, 1, 5, 1, 5};
@@ -109,7 +124,7 @@ static const uint8_t ands[48] = {3, 3, 3, 3, 3, 3, 3, 3, 3, 3, 3, 3, 3, 3, 3, 3,
                                  3, 3, 3, 3, 3, 3, 3, 3, 3, 3, 3, 3, 3, 3, 3, 3, 3, 3, 3, 3, 3, 3, 3, 3};
 static const uint8_t five[2] = {1, 5};
 
-static uint8_t input[2 + LONGEST_IMAGE + 1024];
+static uint8_t input[2 + GATE_LONGEST_IMAGE + 1024];
 static size_t filled;
 
 static void put(const uint8_t *bytes, size_t count) {
@@ -160,8 +175,8 @@ static void put_records(const uint8_t *bytes, size_t count) {
 }
 
 static void replay(const char *name, const char *printed) {
-    struct call call = {name, 0, input, filled, printed, 0};
-    measure(&call, GATE_REPLAY_STACK);
+    struct call call = {name, REPLAY, input, filled, printed, 0};
+    say(name, measure(&call, GATE_REPLAY_STACK), GATE_REPLAY_STACK);
 }
 
 #define GRANTED "0 0\n0 0\n0 0\n0 0\n0 0\n0 0\n0 0\n0 0\n0 0\n0 0\n6 48\n0 0\n"
@@ -169,7 +184,7 @@ static void replay(const char *name, const char *printed) {
 
 static void replays(void) {
     put_image(wide, 48, 0);
-    if (filled != 2 + LONGEST_IMAGE) exit(1);
+    if (filled != 2 + GATE_LONGEST_IMAGE) exit(1);
     put_records(wide, 48);
     replay("the longest image, and requests that are refused", BARRED);
     put_image(wide, 48, 1);
@@ -185,9 +200,92 @@ static void replays(void) {
     replay("no input", "cut\n");
 }
 
+/* ---- Calls on a box ------------------------------------------------------------------------ */
+
+/* The most that a call of one name needs, which is said when the next name comes. */
+static const char *group = "";
+static size_t most;
+
+static void say_group(const char *next) {
+    if (most) say(group, most, GATE_BOX_STACK);
+    group = next;
+    most = 0;
+}
+
+/* A call on the box as it is; what it leaves is there for the next. The input is taken. */
+static void on_box(struct call call) {
+    size_t need = measure(&call, GATE_BOX_STACK);
+    if (need > most) most = need;
+    start = box;
+    filled = 0;
+}
+
+static void loaded(const char *name, gate_answer answer) {
+    struct call call = {name, LOAD, input + 2, filled - 2, "", answer};
+    on_box(call);
+}
+
+static void served(const char *name, gate_answer answer) {
+    struct call call = {name, RECORD, input, filled, "", answer};
+    on_box(call);
+}
+
+/* A begin, asks, changes, bypasses and an end, with these bytes, on the box as it is. */
+static void requests(const uint8_t *bytes, size_t count, gate_answer row) {
+    put((const uint8_t *)"\1\0\37", 3);
+    served("begin", GATE_DONE);
+    for (size_t mode = 0; mode < GATE_MODES; mode++) {
+        put((const uint8_t *)"\3\0\37", 3);
+        put_byte(mode);
+        served("ask", row);
+    }
+    put_store(4, bytes, count, bytes, count);
+    served("change", row);
+    put_store(5, bytes, count, bytes, count);
+    served("bypass of the same sets", row);
+    put_store(5, five, 2, five, 2);
+    served("bypass", row);
+    put_store(4, bytes, count, ands, 48);
+    served("change, refused at its end", row ? row : GATE_EXPRESSION_WRONG + 256 * 304);
+    put((const uint8_t *)"\2\0", 2);
+    served("end", GATE_DONE);
+}
+
+static void calls_on_a_box(void) {
+    struct call fresh = {"fresh", FRESH, input, 0, "", GATE_DONE};
+    say_group("a box made fresh");
+    on_box(fresh);
+    say_group("loads and requests on a box, the longest image");
+    put_image(wide, 48, 0);
+    loaded("load the longest image", GATE_DONE);
+    requests(wide, 48, GATE_ROW_NOT_PASSED);
+    put_image(wide, 48, 0);
+    memmove(input + 1, input, filled++);
+    input[0] = GATE_LOAD;
+    served("load the longest image by a record", GATE_DONE);
+    say_group("loads and requests on a box, a long image and requests that are granted");
+    put_image(wide, 48, 1);
+    loaded("load a long image", GATE_DONE);
+    requests(wide, 48, GATE_DONE);
+    say_group("loads and requests on a box, the deepest expressions");
+    put_image(deep, 47, 1);
+    loaded("load the deepest expressions", GATE_DONE);
+    requests(deep, 47, GATE_DONE);
+    say_group("refused calls on a box");
+    put_image(wide, 48, 0);
+    memcpy(input + filled - 48, ands, 48);
+    loaded("load the longest image, refused at its end", GATE_EXPRESSION_WRONG + 256 * GATE_LONGEST_IMAGE);
+    served("no record", GATE_NO_RECORD);
+    memset(&start, 0, sizeof start);
+    put((const uint8_t *)"\3\0\0\0", 4);
+    served("ask, of zeroed memory", GATE_ILL_FORMED);
+    say_group("");
+}
+
 int main(void) {
     texts();
     replays();
+    calls_on_a_box();
     puts("stack: passed");
     return 0;
 }
