@@ -11,12 +11,12 @@ use Rattle.gate.specs.Effects.{Tells}
 use Rattle.machine.specs.Machine.{Request, load, begin, end, ask, change, bypass, Step}
 use Rattle.records.specs.declared.Span.{Span}
 use Rattle.records.specs.declared.Parted.{Parted}
-use Rattle.records.specs.Records.{mostFields, noSpan, nothing, AloneIs}
+use Rattle.records.specs.Records.{mostFields, noSpan, AloneIs}
 use Rattle.records.specs.Places.{filled-at}
 use Rattle.door.specs.declared.BoxRecord.{BoxRecord}
 use Rattle.door.specs.declared.BoxServed.{BoxServed}
 use Rattle.door.specs.declared.BoxLoaded.{BoxLoaded}
-use Rattle.door.specs.Box.{packed, noRecord, IsBoxRecord, Refills, Serves}
+use Rattle.door.specs.Box.{packed, noRecord, Refills, Serves}
 use Rattle.door.specs.Inner.{Inside, fieldAt, requestAt, Unaltered, RecordIs, LoadIs}
 use Rattle.door.specs.Laws.{one-box-record, no-request, places-inside, code-some, a-request, a-load, load-code}
 

@@ -1,15 +1,14 @@
 -- What the functions inside tell: the request at the places of a record's fields, and what a record comes to without the box. A device of the proofs.
 use mathlib.Core.Path.{_≡_}
 use mathlib.Core.Bool.{Bool, true, false}
-use mathlib.Core.List.{List, [], _∷_}
-use mathlib.Core.Logic.{_⊎_}
+use mathlib.Core.List.{List, []}
 use Prim.Native.Nat.{ℕ, _<_, _≤_}
 use lib.ListN.{length, getD}
 use Rattle.policy.specs.State.{mostFiles, setSlots, withFile}
 use Rattle.machine.specs.Machine.{Request, load}
 use Rattle.machine.specs.Served.{requestOf}
 use Rattle.records.specs.declared.Span.{Span}
-use Rattle.records.specs.Records.{Recorded, noSpan}
+use Rattle.records.specs.Records.{noSpan}
 use Rattle.records.specs.Walk.{spanned}
 use Rattle.door.specs.declared.BoxRecord.{BoxRecord}
 use Rattle.door.specs.declared.BoxServed.{BoxServed}

@@ -3,7 +3,7 @@ use mathlib.Core.Path.{_≡_, refl, sym, ap, ap₂, _∙_, subst}
 use mathlib.Core.Bool.{cond}
 use mathlib.Core.List.{List, [], _∷_}
 use mathlib.Core.Logic.{inl, inr}
-use Prim.Native.Nat.{ℕ, _<_, _≤_}
+use Prim.Native.Nat.{ℕ, _<_}
 use native.Mathlib.Omega.{arith}
 use lib.Dec.{eqb}
 use borrow.Author.Tests.{ne-eqb}
@@ -20,7 +20,7 @@ use Rattle.records.specs.Records.{Shape, Byte, Listed, code-01, code-02, code-0
 use Rattle.records.specs.Laws.{one-record}
 use Rattle.records.specs.Places.{stands-in-place, stands-alone}
 use Rattle.door.specs.declared.BoxRecord.{BoxRecord}
-use Rattle.door.specs.Box.{packed, noRecord, IsBoxRecord, begins, ends, asks, changes, bypasses, loads, Makes, Called, Uncalled, Serves}
+use Rattle.door.specs.Box.{packed, noRecord, IsBoxRecord, begins, ends, asks, changes, bypasses, loads, Makes, Called, Serves}
 use Rattle.door.specs.Inner.{Inside, fieldAt, requestAt}
 
 -- the request of a code and its fields: three bytes and two expressions, or an image

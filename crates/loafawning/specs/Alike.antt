@@ -28,19 +28,39 @@ module _ (slot file mode : ℕ) (x y rest : List ℕ) where
 -- every record of a replay input is one of a box
 pub replayed-boxed : {bs rest : List ℕ} {q : Request} → IsRecord bs q rest → IsBoxRecord bs q rest
 replayed-boxed (a-begin {slot} {role} {rest}) =
-    begins (record { shapes = Byte ∷ Byte ∷ []; listed = code-01; body = slot ∷ role ∷ rest; is = refl;
-    fields = next (a-byte slot (role ∷ rest)) (next (a-byte role rest) none) })
+    begins (record {
+      shapes = Byte ∷ Byte ∷ [];
+      listed = code-01;
+      body = slot ∷ role ∷ rest;
+      is = refl;
+      fields = next (a-byte slot (role ∷ rest)) (next (a-byte role rest) none);
+    })
 replayed-boxed (an-end {slot} {rest}) =
     ends (record { shapes = Byte ∷ []; listed = code-02; body = slot ∷ rest; is = refl; fields = next (a-byte slot rest) none })
 replayed-boxed (an-ask {slot} {file} {mode} {rest}) =
-    asks (record { shapes = Byte ∷ Byte ∷ Byte ∷ []; listed = code-03; body = slot ∷ file ∷ mode ∷ rest; is = refl;
-    fields = next (a-byte slot (file ∷ mode ∷ rest)) (next (a-byte file (mode ∷ rest)) (next (a-byte mode rest) none)) })
+    asks (record {
+      shapes = Byte ∷ Byte ∷ Byte ∷ [];
+      listed = code-03;
+      body = slot ∷ file ∷ mode ∷ rest;
+      is = refl;
+      fields = next (a-byte slot (file ∷ mode ∷ rest)) (next (a-byte file (mode ∷ rest)) (next (a-byte mode rest) none));
+    })
 replayed-boxed (a-change {slot} {file} {mode} {x} {y} {rest}) =
-    changes (record { shapes = Byte ∷ Byte ∷ Byte ∷ Short ∷ Short ∷ []; listed = code-04; body = storeBody slot file mode x y rest; is = refl;
-    fields = five-fields slot file mode x y rest })
+    changes (record {
+      shapes = Byte ∷ Byte ∷ Byte ∷ Short ∷ Short ∷ [];
+      listed = code-04;
+      body = storeBody slot file mode x y rest;
+      is = refl;
+      fields = five-fields slot file mode x y rest;
+    })
 replayed-boxed (a-bypass {slot} {file} {mode} {x} {y} {rest}) =
-    bypasses (record { shapes = Byte ∷ Byte ∷ Byte ∷ Short ∷ Short ∷ []; listed = code-05; body = storeBody slot file mode x y rest; is = refl;
-    fields = five-fields slot file mode x y rest })
+    bypasses (record {
+      shapes = Byte ∷ Byte ∷ Byte ∷ Short ∷ Short ∷ [];
+      listed = code-05;
+      body = storeBody slot file mode x y rest;
+      is = refl;
+      fields = five-fields slot file mode x y rest;
+    })
 
 -- what stands at the front, by its field
 byte-front : {l rest : List ℕ} {x : ℕ} → Field Byte l (x ∷ []) rest → l ≡ x ∷ rest

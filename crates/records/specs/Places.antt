@@ -2,16 +2,15 @@
 use mathlib.Core.Path.{_≡_, refl, sym, ap, ap₂, _∙_, subst}
 use mathlib.Core.Bool.{true, false, true≢false}
 use mathlib.Core.Logic.{inl, inr}
-use mathlib.Core.List.{List, [], _∷_, _++_, map, append-nil, append-assoc, head-eq-of-cons-eq, tail-eq-of-cons-eq}
+use mathlib.Core.List.{List, [], _∷_, _++_, append-nil, append-assoc, head-eq-of-cons-eq, tail-eq-of-cons-eq}
 use Prim.Native.Nat.{ℕ, zero, suc, _+_, _-_, _<_, _≤_}
 use native.Mathlib.Omega.{arith}
 use native.Mathlib.Numerals.{add-one}
-use lib.ListN.{length, getD, take, drop, set, replicate, length-append, length-drop, length-take, length-map, List·getD-map, drop-of-length-le}
+use lib.ListN.{length, getD, take, drop, set, replicate, length-append, length-drop, length-map, List·getD-map, drop-of-length-le}
 use lib.Seq.{drop-drop, drop-cons, getD-drop, getD-take, length-take-le, set-at}
 use Rattle.fields.specs.Fronts.{nil-of, cons-nil}
 use Rattle.records.specs.declared.Span.{Span}
 use Rattle.records.specs.declared.Parted.{Parted}
-use Rattle.records.specs.declared.Shapes.{Shapes}
 use Rattle.records.specs.Records.{Shape, Byte, Short, Long, Quad, Listed, code-01, code-02, code-03, code-04, code-05, code-06, mostFields}
 use Rattle.records.specs.Records.{lead, size, Field, Fields, none, next, spans, noSpan, filledUp, Stands, Unrecorded, nothing, PartedIs, AloneIs}
 use Rattle.records.specs.Walk.{shapeOf, shapesIn, spanned, ShapesAre, FieldThere, WalkThere, WalkIs}

@@ -1,6 +1,6 @@
 -- `loafawning::gate_load` meets its contract: a walk of its MIR, by hand. The borrow of the box is opened, the box is copied out whole and passed to
 -- `load_box` with the slice, the box that comes back is stored over it, and the borrow is closed at that box. Assumes nothing.
-use mathlib.Core.Path.{_≡_, refl, ap}
+use mathlib.Core.Path.{refl, ap}
 use Prim.Native.Nat.{ℕ, _<_, _^_}
 use mathlib.Core.List.{[], _∷_, List}
 use lib.ListN.{length}

@@ -5,18 +5,13 @@ use denote.Ref.{now}
 use borrow.Author.Needs.{needs}
 use Rattle.records.proofs.byte_at.Statement.{statement}
 use Rattle.records.proofs.byte_at.Tie as tie
-use Rattle.records.proofs.byte_at.Reads as reads
-use Rattle.records.proofs.byte_at.Lts as lts
 
--- src/lib.rt:102:27
 shared-slice-read-result : tie.Need-shared-slice-read-result
 shared-slice-read-result c = search needs
 
--- src/lib.rt:99:1
 returns : tie.Need-returns
 returns c = search needs
 
--- src/lib.rt:99:1
 returns-2 : tie.Need-returns-2
 returns-2 c = sym (List·getD-eq-default (now (c .before .args .bytes)) 0 (c .if1 .left))
 

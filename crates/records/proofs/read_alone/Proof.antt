@@ -1,5 +1,4 @@
 -- `records::read_alone` meets its contract: bytes follow the record, or none do. Assumes nothing.
-use native.Mathlib.Omega.{arith}
 use Rattle.records.specs.Places.{alone-not, alone-all}
 use borrow.Author.Needs.{needs}
 use Rattle.records.proofs.read_alone.Statement.{statement}
