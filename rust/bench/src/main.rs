@@ -1,10 +1,11 @@
 //! The proved library and its twin, timed side by side in one run; prints tables in Markdown.
 //!
-//! A request's cost is a difference: an input with the image, a begin and so many of the request,
-//! less the same input without them, over their number. Both sides go through replay, so a line
-//! printed per call is in it.
+//! The first table is of calls on a box that is kept. In the others both sides go through replay, so
+//! a line printed per call is in every figure: a request's cost is a difference, of an input with the
+//! image, a begin and so many of the request, less the same input without them, over their number.
 
 mod clock;
+mod kept;
 mod policies;
 
 use clock::{in_turn, Samples, Side};
@@ -19,17 +20,20 @@ fn main() {
         None => 60,
         Some(word) => word.parse().expect("a number of passes"),
     };
-    println!("Best of {passes} samples a figure, the median in parentheses; library and twin in turn. The ratio is of the best. A load's figure is that of a whole replay of the image alone.\n");
+    let policies = [policies::fresh(), policies::typical(), policies::full()];
+    println!("Best of {passes} samples a figure, the median in parentheses; library and twin in turn. The ratio is of the best.\n");
+    println!("| policy | call on a box that is kept | library, ns | twin, ns | ratio |");
+    println!("|---|---|---|---|---|");
+    for timed in &policies {
+        kept::calls(timed, passes);
+    }
+    println!("\nBy replay; a load's figure is that of a whole replay of the image alone.\n");
     println!("| policy | call | library, ns | twin, ns | ratio |");
     println!("|---|---|---|---|---|");
-    let mut loads = Vec::new();
-    for (timed, last) in [
-        (policies::fresh(), 0),
-        (policies::typical(), 7),
-        (policies::full(), 31),
-    ] {
-        loads.push(requests(&timed, last, passes));
-    }
+    let loads: Vec<String> = policies
+        .iter()
+        .map(|timed| requests(timed, passes))
+        .collect();
     println!("\n| policy | load of an image | library, ns | MB/s | twin, ns | MB/s | ratio |");
     println!("|---|---|---|---|---|---|---|");
     loads.iter().for_each(|line| println!("{line}"));
@@ -50,18 +54,19 @@ fn input(image: &[u8], records: &[u8]) -> Vec<u8> {
 }
 
 /// The inputs that are timed for a policy, in the order that [`requests`] takes them.
-fn inputs(timed: &Timed, last: u8) -> Vec<Vec<u8>> {
-    let begun = [1, 0, 0, 1, 1, last];
+fn inputs(timed: &Timed) -> Vec<Vec<u8>> {
+    let begun = [1, 0, 0, 1, 1, timed.last];
+    let [granted, refused, change, bypass] = timed.records();
     let many = |record: &[u8]| [&begun[..], &record.repeat(MANY)].concat();
     let begins: Vec<u8> = (0..16).flat_map(|slot| [1, slot, 0]).collect();
     let ends: Vec<u8> = (0..16).flat_map(|slot| [2, slot]).collect();
     let records = [
         vec![],
         begun.to_vec(),
-        many(&timed.granted),
-        many(&timed.refused),
-        many(&timed.change),
-        many(&timed.bypass),
+        many(&granted),
+        many(&refused),
+        many(&change),
+        many(&bypass),
         begins.clone(),
         [begins, ends].concat(),
     ];
@@ -98,8 +103,8 @@ fn growth(passes: usize) {
 }
 
 /// Times a policy's calls, prints a line for each request, and gives the load's.
-fn requests(timed: &Timed, last: u8, passes: usize) -> String {
-    let inputs = inputs(timed, last);
+fn requests(timed: &Timed, passes: usize) -> String {
+    let inputs = inputs(timed);
     let mut things: Vec<[Side; 2]> = inputs.iter().map(|input| sides(input)).collect();
     let samples = in_turn(passes, &mut things);
     let line = |call: &str, with: usize, without: usize, count: usize| {

@@ -16,21 +16,31 @@ pub struct Timed {
     pub name: &'static str,
     /// Its image.
     pub image: Vec<u8>,
-    /// A record of an ask that is granted.
-    pub granted: Vec<u8>,
-    /// A record of an ask that is refused.
-    pub refused: Vec<u8>,
-    /// A record of a change that is granted.
-    pub change: Vec<u8>,
-    /// A record of a bypass that is granted.
-    pub bypass: Vec<u8>,
+    /// The last role.
+    pub last: u8,
+    /// The slot, file and mode of an ask that is refused.
+    pub refused: [u8; 3],
+    /// T1, E, T2, G of file 0's Execute row, which slot 0 may store again.
+    pub row: [Vec<u8>; 4],
 }
 
 impl Timed {
     /// The calls on a policy: slot 0 asks to read file 0; the ask named (slot, file, mode) is
     /// refused; and slot 0 stores file 0's Execute row again as it is.
     fn new(name: &'static str, policy: &Policy, refused: [u8; 3]) -> Timed {
-        let row = &policy.files[0][8..12];
+        Timed {
+            name,
+            image: policy.to_image(),
+            last: policy.roles.len() as u8 - 1,
+            refused,
+            row: std::array::from_fn(|part| policy.files[0][8 + part].clone()),
+        }
+    }
+
+    /// The records of these calls: the ask that is granted, the one that is refused, a change and
+    /// a bypass.
+    pub fn records(&self) -> [Vec<u8>; 4] {
+        let [t1, e, t2, g] = &self.row;
         let twice = |code, first: &[u8], second: &[u8]| {
             let mut record = vec![code, 0, 0, 2, first.len() as u8];
             record.extend(first);
@@ -38,14 +48,9 @@ impl Timed {
             record.extend(second);
             record
         };
-        Timed {
-            name,
-            image: policy.to_image(),
-            granted: vec![3, 0, 0, 0],
-            refused: [&[3][..], &refused].concat(),
-            change: twice(4, &row[0], &row[2]),
-            bypass: twice(5, &row[1], &row[3]),
-        }
+        let refused = [&[3][..], &self.refused].concat();
+        let granted = vec![3, 0, 0, 0];
+        [granted, refused, twice(4, t1, t2), twice(5, e, g)]
     }
 }
 
@@ -181,22 +186,21 @@ mod tests {
     use super::*;
 
     /// The lines that a policy's calls print, after the load's and those of the two begins.
-    fn lines(timed: &Timed, last: u8) -> String {
+    fn lines(timed: &Timed) -> String {
         let mut input = (timed.image.len() as u16).to_le_bytes().to_vec();
         input.extend(&timed.image);
-        input.extend([1, 0, 0, 1, 1, last]);
-        for record in [&timed.granted, &timed.refused, &timed.change, &timed.bypass] {
-            input.extend(record);
-        }
+        input.extend([1, 0, 0, 1, 1, timed.last]);
+        input.extend(timed.records().concat());
         String::from_utf8(twin::replay(&input)).expect("plain text")
     }
 
     #[test]
     fn the_calls_answer_as_the_table_says() {
         let expected = "0 0\n0 0\n0 0\n0 0\n14 0\n0 0\n0 0\n";
-        assert_eq!(lines(&fresh(), 0), expected);
-        assert_eq!(lines(&typical(), 7), expected);
-        assert_eq!(lines(&full(), 31), expected);
+        for (timed, last) in [(fresh(), 0), (typical(), 7), (full(), 31)] {
+            assert_eq!(timed.last, last);
+            assert_eq!(lines(&timed), expected);
+        }
     }
 
     #[test]

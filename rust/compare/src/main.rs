@@ -1,11 +1,14 @@
 //! The proved library against its twin, on drawn calls from fixed seeds, in one process.
 //!
 //!     compare [--long] [--seed N] [--times N]     all parts; --long makes forty times the rounds
+//!     compare --kept [and the same]               boxes that are kept, call by call
 //!     compare --program PATH [--seed N]           the program `replay` there, on long inputs
+//!     compare --parkbox PATH [--seed N]           the program `parkbox` there, on long inputs
 //!     compare --turn PATH [--seed N]              the program `turn` there, on many lines
 //!     compare --vectors PATH [--seed N]           the program `vectors` there, on made states
 //!     compare --replay < HEX                      one input, both outputs
 //!     compare --text < HEX                        one text, both answers
+//!     compare --records < HEX                     records on one box, both answers to each
 //!
 //! Fails at the first difference, or if a number or a kind of place was never met, or if asks
 //! were not granted and refused in balance, or if a program does not end with exit status 0.
@@ -13,9 +16,11 @@
 mod calls;
 mod cases;
 mod draw;
+mod kept;
 mod long;
 mod longest;
 mod made;
+mod parkbox;
 mod parts;
 mod policies;
 mod program;
@@ -40,8 +45,9 @@ const LEAST: u64 = 200_000;
 fn main() -> ExitCode {
     let words: Vec<String> = std::env::args().skip(1).collect();
     let done = match words.first().map(String::as_str) {
-        Some(which @ ("--replay" | "--text")) => one(which),
-        Some(which @ ("--program" | "--turn" | "--vectors")) => match words.get(1) {
+        Some(which @ ("--replay" | "--text" | "--records")) => one(which),
+        Some("--kept") => options(&words[1..]).and_then(|(seed, times)| kept::compare(seed, times)),
+        Some(which @ ("--program" | "--parkbox" | "--turn" | "--vectors")) => match words.get(1) {
             Some(path) => options(&words[2..]).and_then(|(seed, _)| program(which, path, seed)),
             None => Err(format!("{which} needs a path")),
         },
@@ -81,6 +87,7 @@ fn options(words: &[String]) -> Result<(u64, usize), String> {
 /// A program against the twin.
 fn program(which: &str, path: &str, seed: u64) -> Result<String, String> {
     match which {
+        "--parkbox" => parkbox::compare(path, seed),
         "--turn" => turn::compare(path, seed),
         "--vectors" => made::compare(path, seed),
         _ => {
@@ -123,6 +130,9 @@ fn all_parts(runner: &mut Runner, seed: u64, times: usize) -> Result<(), String>
 /// One input or text from standard input, in hex.
 fn one(which: &str) -> Result<String, String> {
     let hex = std::io::read_to_string(std::io::stdin()).map_err(|why| why.to_string())?;
+    if which == "--records" {
+        return kept::records(&hex);
+    }
     let bytes = from_hex(&hex).ok_or("standard input is not hex")?;
     let mut runner = Runner::new(LIBRARY);
     if which == "--replay" {

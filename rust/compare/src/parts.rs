@@ -32,7 +32,7 @@ fn sequence(draw: &mut Draw, runner: &mut Runner) -> Result<(), String> {
 }
 
 /// A policy whose image has a few hundred bytes.
-fn small(draw: &mut Draw) -> Policy {
+pub fn small(draw: &mut Draw) -> Policy {
     let n = 1 + draw.below(9);
     let (roles, files) = (1 + draw.below(2), 1 + draw.below(2));
     policies::policy(draw, n, roles, files)
@@ -99,7 +99,7 @@ fn wrong_expressions(draw: &mut Draw, runner: &mut Runner) -> Result<(), String>
         part.clear();
     }
     let mut records = vec![1, 0, 0];
-    records.extend(For::policy(&policy).damaged_everywhere(draw));
+    records.extend(For::policy(&policy).damaged_everywhere(draw).concat());
     runner.replay(&input(&policy.to_image(), &records))
 }
 

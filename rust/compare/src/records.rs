@@ -31,20 +31,39 @@ impl For {
 
     /// So many records, after a begin of four slots.
     pub fn records(&self, draw: &mut Draw, count: usize) -> Vec<u8> {
-        let mut records = Vec::new();
-        for slot in 0..4 {
-            records.extend([1, slot, draw.byte(self.roles.max(1))]);
-        }
+        let mut records = self.begins(draw, 4).concat();
         for _ in 0..count {
-            match draw.below(100) {
-                0..=11 => records.extend([1, slot(draw), part_of(draw, self.roles)]),
-                12..=15 => records.extend([2, slot(draw)]),
-                16..=59 => records.extend(self.row(draw, 3)),
-                60..=80 => records.extend(self.twice(draw, 4)),
-                _ => records.extend(self.twice(draw, 5)),
-            }
+            records.extend(self.record(draw));
         }
         records
+    }
+
+    /// A begin of each of so many slots.
+    pub fn begins(&self, draw: &mut Draw, slots: u8) -> Vec<Vec<u8>> {
+        let begin = |slot| vec![1, slot, draw.byte(self.roles.max(1))];
+        (0..slots).map(begin).collect()
+    }
+
+    /// A record, most often an ask.
+    pub fn record(&self, draw: &mut Draw) -> Vec<u8> {
+        let code = match draw.below(100) {
+            0..=11 => 1,
+            12..=15 => 2,
+            16..=59 => 3,
+            60..=80 => 4,
+            _ => 5,
+        };
+        self.record_of(draw, code)
+    }
+
+    /// A record with this code, 1 to 5.
+    pub fn record_of(&self, draw: &mut Draw, code: u8) -> Vec<u8> {
+        match code {
+            1 => vec![1, slot(draw), part_of(draw, self.roles)],
+            2 => vec![2, slot(draw)],
+            3 => self.row(draw, 3).to_vec(),
+            code => self.twice(draw, code),
+        }
     }
 
     /// A code with a slot, a file and a mode.
@@ -80,7 +99,7 @@ impl For {
 
     /// A change and a bypass of slot 0 and file 0 for each place of an expression, damaged there,
     /// now the first and now the second.
-    pub fn damaged_everywhere(&self, draw: &mut Draw) -> Vec<u8> {
+    pub fn damaged_everywhere(&self, draw: &mut Draw) -> Vec<Vec<u8>> {
         let mut records = Vec::new();
         for code in [4, 5] {
             let good = self.expression(draw, code);
@@ -89,10 +108,11 @@ impl For {
                 bad[at] = draw.pick(&[0, 1, 2, 3, 4, 5, 63, 64, 255, bad[at] ^ 1, bad[at] ^ 2]);
                 let first = draw.one_in(2);
                 let pair = if first { [&bad, &good] } else { [&good, &bad] };
-                records.extend([code, 0, 0, draw.byte(5)]);
+                let mut record = vec![code, 0, 0, draw.byte(5)];
                 for bytes in pair {
-                    push(&mut records, bytes);
+                    push(&mut record, bytes);
                 }
+                records.push(record);
             }
         }
         records

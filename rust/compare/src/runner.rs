@@ -118,7 +118,7 @@ fn report_replay(input: &[u8], library: &[u8], twin: &[u8], why: &str) -> String
 }
 
 /// Bytes in hex.
-fn hex(bytes: &[u8]) -> String {
+pub fn hex(bytes: &[u8]) -> String {
     bytes.iter().fold(String::new(), |mut hex, byte| {
         write!(hex, "{byte:02x}").expect("a string takes all");
         hex

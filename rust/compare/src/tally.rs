@@ -21,7 +21,7 @@ const CAN: [&[usize]; 7] = [
 ];
 
 /// The kinds of place, all of which have to be met.
-const KINDS: [&str; 39] = [
+pub const KINDS: [&str; 39] = [
     "load: 1 at byte 0",
     "load: 1 at byte 1",
     "load: 1 at byte 2",
@@ -216,7 +216,7 @@ fn of_text(kind: &str) -> bool {
 }
 
 /// The kind of a load's place, if one is named.
-fn load_kind(image: &[u8], number: usize, place: usize) -> Option<String> {
+pub fn load_kind(image: &[u8], number: usize, place: usize) -> Option<String> {
     let part = |role| if role { "a role" } else { "a file" };
     let kind = match (number, field(image, place)) {
         (0, _) => return None,
@@ -237,7 +237,7 @@ fn load_kind(image: &[u8], number: usize, place: usize) -> Option<String> {
 }
 
 /// The kind of a request's place, if one is named.
-fn request_kind(lengths: &[usize; 2], number: usize, place: usize) -> Option<String> {
+pub fn request_kind(lengths: &[usize; 2], number: usize, place: usize) -> Option<String> {
     if number != 6 {
         return None;
     }
@@ -267,7 +267,7 @@ impl fmt::Display for Tally {
             });
             writeln!(f, "{number:>6} {}", row(counts))?;
         }
-        writeln!(f, "17 is asked for nowhere: a state that came from the fresh one by load and requests is well formed. States that a caller makes are given to the program vectors.")?;
+        writeln!(f, "17 is asked for nowhere: a state that came from the fresh one by load and requests is well formed. States that a caller makes are given to the program vectors, and as boxes with --kept.")?;
         for kind in KINDS {
             writeln!(f, "{:>9}  {kind}", self.kinds[kind])?;
         }

@@ -2,7 +2,7 @@
 
 use crate::program::printed;
 use crate::runner::{from_hex, Runner, Subject};
-use crate::{all_parts, cases, long, made, turn, windows};
+use crate::{all_parts, cases, long, made, parkbox, turn, windows};
 use gate::{Answer, TooShort};
 
 fn twins_replay(input: &[u8], out: &mut [u8]) -> Result<usize, TooShort> {
@@ -140,6 +140,7 @@ fn a_program_that_says_nothing_is_found() {
     let compares = [
         long::compare,
         windows::compare,
+        parkbox::compare,
         turn::compare,
         made::compare,
     ];

@@ -16,6 +16,11 @@ fn answer(number: Number, place: u32) -> Answer {
     Answer { number, place }
 }
 
+/// A refusal's number and place.
+fn said(refusal: Refusal) -> (u8, u64) {
+    (refusal.number().0, refusal.place())
+}
+
 #[test]
 fn the_run_of_the_paper() {
     assert_eq!(replay(&PAPER), PRINTED);
@@ -63,16 +68,16 @@ fn short_records_with_long_lines_stay_under_the_bound() {
 
 #[test]
 fn texts_of_the_paper() {
-    let made = |text: &str| text_to_bytes(text.as_bytes());
+    let made = |text: &str| text_to_bytes(text.as_bytes()).map_err(said);
     assert_eq!(made("1|3&5"), Ok(vec![4, 1, 1, 3, 1, 3, 1, 5]));
     assert_eq!(made("(1|3)&5"), Ok(vec![3, 4, 1, 1, 1, 3, 1, 5]));
-    assert_eq!(made("1&"), Err(answer(Number::TEXT_WRONG, 2)));
-    assert_eq!(made("012"), Err(answer(Number::TEXT_WRONG, 1)));
+    assert_eq!(made("1&"), Err((18, 2)));
+    assert_eq!(made("012"), Err((18, 1)));
     assert_eq!(made("   "), Ok(vec![]));
-    assert_eq!(made(&"1&".repeat(16)), Err(answer(Number::TEXT_WRONG, 32)));
+    assert_eq!(made(&"1&".repeat(16)), Err((18, 32)));
     let long = "1&".repeat(16) + "1";
-    assert_eq!(made(&long), Err(answer(Number::TEXT_LONG, 0)));
-    assert_eq!(made(&" ".repeat(513)), Err(answer(Number::TEXT_WRONG, 512)));
+    assert_eq!(made(&long), Err((19, 0)));
+    assert_eq!(made(&" ".repeat(513)), Err((18, 512)));
 }
 
 #[test]

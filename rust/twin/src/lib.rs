@@ -12,6 +12,7 @@ pub mod answer;
 pub mod ast;
 pub mod code;
 pub mod image;
+pub mod parkbox;
 pub mod replay;
 pub mod request;
 pub mod state;
@@ -23,6 +24,7 @@ mod tests;
 
 pub use answer::{number, Answer};
 pub use image::Policy;
+pub use parkbox::{parkbox, serve};
 pub use replay::replay;
 pub use state::{well_formed, Slot, State};
 pub use text::turn_text;

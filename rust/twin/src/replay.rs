@@ -35,56 +35,66 @@ fn run(input: &[u8], printed: &mut Vec<u8>) -> Option<()> {
     let image = bytes(&mut rest, there)?;
     print(printed, state.load(image));
     while !rest.is_empty() {
-        let answer = record(&mut rest, &mut state)?;
-        print(printed, answer);
+        let call = Call::take(&mut rest)?;
+        print(printed, call.make(&mut state));
     }
     Some(())
 }
 
-/// Takes one record and makes its call; nothing, and no call, where it is broken off or
-/// unknown (E3).
-fn record(rest: &mut &[u8], state: &mut State) -> Option<Answer> {
-    match byte(rest)? {
-        BEGIN => {
-            let [slot, role] = numbers(rest)?;
-            Some(state.begin(slot, role))
+/// A call that a record makes, its numbers as they stand.
+#[derive(Clone, Copy, Debug, PartialEq, Eq)]
+pub(crate) enum Call<'a> {
+    /// begin: slot, role.
+    Begin([usize; 2]),
+    /// end: slot.
+    End([usize; 1]),
+    /// ask: slot, file, mode.
+    Ask([usize; 3]),
+    /// change: slot, file, mode; T1, T2.
+    Change([usize; 3], [&'a [u8]; 2]),
+    /// bypass: slot, file, mode; E, G.
+    Bypass([usize; 3], [&'a [u8]; 2]),
+}
+
+impl<'a> Call<'a> {
+    /// Takes one record; nothing where it is broken off or unknown.
+    pub(crate) fn take(rest: &mut &'a [u8]) -> Option<Call<'a>> {
+        Some(match byte(rest)? {
+            BEGIN => Call::Begin(numbers(rest)?),
+            END => Call::End(numbers(rest)?),
+            ASK => Call::Ask(numbers(rest)?),
+            CHANGE => Call::Change(numbers(rest)?, [expression(rest)?, expression(rest)?]),
+            BYPASS => Call::Bypass(numbers(rest)?, [expression(rest)?, expression(rest)?]),
+            _ => return None,
+        })
+    }
+
+    /// Makes the call on a state.
+    pub(crate) fn make(self, state: &mut State) -> Answer {
+        match self {
+            Call::Begin([slot, role]) => state.begin(slot, role),
+            Call::End([slot]) => state.end(slot),
+            Call::Ask([slot, file, mode]) => state.ask(slot, file, mode),
+            Call::Change([slot, file, mode], [t1, t2]) => state.change(slot, file, mode, t1, t2),
+            Call::Bypass([slot, file, mode], [e, g]) => state.bypass(slot, file, mode, e, g),
         }
-        END => {
-            let [slot] = numbers(rest)?;
-            Some(state.end(slot))
-        }
-        ASK => {
-            let [slot, file, mode] = numbers(rest)?;
-            Some(state.ask(slot, file, mode))
-        }
-        CHANGE => {
-            let [slot, file, mode] = numbers(rest)?;
-            let (t1, t2) = (expression(rest)?, expression(rest)?);
-            Some(state.change(slot, file, mode, t1, t2))
-        }
-        BYPASS => {
-            let [slot, file, mode] = numbers(rest)?;
-            let (e, g) = (expression(rest)?, expression(rest)?);
-            Some(state.bypass(slot, file, mode, e, g))
-        }
-        _ => None,
     }
 }
 
 /// Prints an answer: the number, a space, the place, and a line end.
-fn print(printed: &mut Vec<u8>, answer: Answer) {
+pub(crate) fn print(printed: &mut Vec<u8>, answer: Answer) {
     writeln!(printed, "{} {}", answer.number, answer.place).expect("a vector takes all");
 }
 
 /// The next bytes, if all are there.
-fn bytes<'a>(rest: &mut &'a [u8], count: usize) -> Option<&'a [u8]> {
+pub(crate) fn bytes<'a>(rest: &mut &'a [u8], count: usize) -> Option<&'a [u8]> {
     let (taken, left) = rest.split_at_checked(count)?;
     *rest = left;
     Some(taken)
 }
 
 /// The next byte, if it is there.
-fn byte(rest: &mut &[u8]) -> Option<u8> {
+pub(crate) fn byte(rest: &mut &[u8]) -> Option<u8> {
     bytes(rest, 1).map(|taken| taken[0])
 }
 

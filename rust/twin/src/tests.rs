@@ -5,6 +5,7 @@ mod help;
 mod image;
 mod meaning;
 mod model;
+mod parkbox;
 mod replay;
 mod requests;
 mod text;

@@ -1,0 +1,79 @@
+//! Boxes that are kept: library and twin call by call, each on a box of its own that lives on.
+//!
+//! After each call, granted or not, the bytes of the box are compared with what they have to be:
+//! after a granted call but ask the twin's state, else those before the call. Every slot, file and
+//! mode is asked after some sequences, and in one part after each granted call that alters the box.
+
+mod box_call;
+mod damage;
+mod layout;
+mod pair;
+mod parts;
+mod tally;
+
+#[cfg(test)]
+mod tests;
+
+pub use box_call::load;
+
+use crate::draw::Draw;
+use crate::runner::from_hex;
+use box_call::BoxCall;
+use gate::ParkBox;
+use pair::{Kept, Pair};
+use parts::parts;
+use tally::BoxTally;
+
+/// The least calls that a run makes.
+const LEAST: u64 = 200_000;
+
+/// The first part of the run that calls on boxes are drawn for.
+const PART: usize = 200;
+
+/// All parts on the library's boxes, and what was met.
+pub fn compare(seed: u64, times: usize) -> Result<String, String> {
+    let tally = all_parts::<ParkBox>(seed, times)?;
+    println!("{tally}");
+    let mut missing = tally.missing();
+    let calls = tally.calls();
+    if calls < LEAST {
+        missing.push(format!("{calls} calls, under {LEAST}"));
+    }
+    if !missing.is_empty() {
+        return Err(missing.join("\n"));
+    }
+    Ok(format!(
+        "compare: seed {seed}, {calls} calls on boxes that are kept, no difference"
+    ))
+}
+
+/// Every round of every part, up to the first difference.
+fn all_parts<B: Kept>(seed: u64, times: usize) -> Result<BoxTally, String> {
+    let mut tally = BoxTally::new();
+    for (part, (name, rounds, make)) in parts::<B>().into_iter().enumerate() {
+        for round in 0..rounds * times {
+            let mut draw = Draw::new(seed, PART + part, round);
+            make(&mut draw, &mut tally).map_err(|why| {
+                format!("DIFFERENCE in {name}, seed {seed}, round {round}: {why}")
+            })?;
+        }
+    }
+    Ok(tally)
+}
+
+/// Records from a fresh box on, in hex: what both answer to each.
+pub fn records(hex: &str) -> Result<String, String> {
+    let bytes = from_hex(hex).ok_or("standard input is not hex")?;
+    let mut pair = Pair::<ParkBox>::fresh();
+    let mut tally = BoxTally::new();
+    let mut said = String::new();
+    let mut rest = &bytes[..];
+    while !rest.is_empty() {
+        let length = box_call::whole(rest).unwrap_or(rest.len());
+        let (record, others) = rest.split_at(length);
+        let answer = pair.call(&BoxCall::Record(record), &mut tally)?;
+        said += &format!("{} {}\n", answer.number, answer.place);
+        rest = others;
+    }
+    Ok(format!("{said}compare: no difference"))
+}
