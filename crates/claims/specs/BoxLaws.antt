@@ -1,11 +1,8 @@
 -- A box's life is a run of the requests that its records are, so the demands hold of every box. Assumes nothing.
-use mathlib.Core.Path.{_≡_, subst}
+use mathlib.Core.Path.{subst}
 use mathlib.Core.List.{List}
 use Prim.Native.Nat.{ℕ}
-use native.Mathlib.Omega.{arith}
 use Rattle.answer.specs.Answers.{Granted}
-use Rattle.policy.specs.declared.State.{State}
-use Rattle.policy.specs.WellFormed.{WellFormed}
 use Rattle.machine.specs.Runs.{none, next}
 use Rattle.machine.specs.Machine.{load, GateEvent, GateRun}
 use Rattle.door.specs.declared.BoxRecord.{BoxRecord}
@@ -33,7 +30,3 @@ demand-3-holds-of-a-box {b} {image = image} w g l q = record {
   then = a-box-lives-a-run l;
   quiet = q;
 }
-
--- memory that is all zero is a state that is not well formed, as a tree has a root: every request of such a box but a load answers 17
-pub zeroed-is-not-well-formed : (s : State) → s .tree .n ≡ 0 → WellFormed s → ⊥
-zeroed-is-not-well-formed s z w = omega (arith, w .tree .count .0)

@@ -10,19 +10,13 @@ use Rattle.policy.specs.declared.State.{State}
 use Rattle.policy.specs.State.{freshState}
 use Rattle.machine.specs.Machine.{Request, load, Step, GateEvent, GateRun}
 use Rattle.lines.specs.Lines.{Line}
-use Rattle.script.specs.Script.{IsRecord, cutLine, stated, imageIn}
+use Rattle.script.specs.Script.{IsRecord, cutLine, AnswerLines, stated, imageIn}
 
 -- the bytes are the records of these requests, one after another, and then the rest
 pub data AreRecords : List ℕ → List Request → List ℕ → Type 0 where
   no-more : {bytes : List ℕ} → AreRecords bytes [] bytes
   record-then : {bytes after rest : List ℕ} {q : Request} {qs : List Request} → IsRecord bytes q after → AreRecords after qs rest
       → AreRecords bytes (q ∷ qs) rest
-
--- the lines of these answers, one after another
-pub data AnswerLines : List GateEvent → List ℕ → Type 0 where
-  no-lines : AnswerLines [] []
-  line-then : {e : GateEvent} {es : List GateEvent} {line lines : List ℕ} → Line (e .answer) [] line → AnswerLines es lines
-      → AnswerLines (e ∷ es) (line ++ lines)
 
 -- what stands after the last record, and what is printed for it: nothing for nothing; `cut` for bytes that are not a record
 abbrev pub LastPrints : List ℕ → List ℕ → Type 0

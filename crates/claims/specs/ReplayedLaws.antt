@@ -10,10 +10,10 @@ use Rattle.policy.specs.declared.State.{State}
 use Rattle.policy.specs.State.{freshState}
 use Rattle.machine.specs.Runs.{none, next}
 use Rattle.machine.specs.Machine.{Request, load, GateEvent, GateRun}
-use Rattle.script.specs.Script.{Plays, ended, called, cut, cutLine, stated, imageIn, Prints, Loaded}
+use Rattle.script.specs.Script.{Plays, ended, called, cut, cutLine, no-lines, line-then, stated, imageIn, Prints, Loaded}
 use Rattle.claims.specs.Trace.{Quiet}
 use Rattle.claims.specs.Demand3.{AfterLoad}
-use Rattle.claims.specs.Replayed.{AreRecords, no-more, record-then, AnswerLines, no-lines, line-then, LastPrints, RecordsRun, InputRun}
+use Rattle.claims.specs.Replayed.{AreRecords, no-more, record-then, LastPrints, RecordsRun, InputRun}
 
 pub records-run : {s : State} {bytes printed : List ℕ} → Plays s bytes printed → RecordsRun s bytes printed
 records-run {s} ended = record {

@@ -69,7 +69,7 @@ module _ (b : BoxRecord) (rec : List ℕ) (p : Parted) where
     pub serve-load : AloneIs rec p → p .code ≡ 6 → (r : BoxServed) → Unaltered b true r → RecordIs b rec out r out
     serve-load (inl (w, h)) c r u = record {
       within-files = u .within-files;
-      load-left = λ t. ((fieldAt rec (p .fields) 0, a-load rec p w h c), refl);
+      load-left = λ t. ((fieldAt rec (p .fields) 0, a-load rec p w h c), u, refl);
       served = λ t. absurd (true≢false (sym (u .loads-is) ∙ t));
     }
     serve-load (inr (n, e)) c r u = absurd (omega (arith, c, ap (λ (q : Parted). q .code) e))
@@ -95,4 +95,4 @@ pub load-served : {b : BoxRecord} {rec out out′ : List ℕ} {r : BoxServed} {l
     → Serves b rec out (l .answer) (l .after) out′
 load-served w t v =
     let left = w .load-left t in
-    inl (record { request = load (left .0 .0); is = left .0 .1; makes = v .load-made (left .0 .0) (left .0 .1); kept = left .1 })
+    inl (record { request = load (left .0 .0); is = left .0 .1; makes = v .load-made (left .0 .0) (left .0 .1); kept = left .2 })

@@ -40,10 +40,10 @@ pub record Unaltered (b : BoxRecord) (loads : Bool) (r : BoxServed) : Type 0 whe
   pub within-files : r .at < mostFiles
   pub same : boxAfter b r ≡ b
 
--- what a record comes to: a load is left to do; any other is served once what came back is stored
+-- what a record comes to: a load is left to do, and nothing is altered; any other is served once what came back is stored
 pub record RecordIs (b : BoxRecord) (rec out : List ℕ) (r : BoxServed) (out′ : List ℕ) : Type 0 where
   pub within-files : r .at < mostFiles
-  pub load-left : r .loads ≡ true → ((image : List ℕ) × IsBoxRecord rec (load image) []) × (out′ ≡ out)
+  pub load-left : r .loads ≡ true → ((image : List ℕ) × IsBoxRecord rec (load image) []) × Unaltered b true r × (out′ ≡ out)
   pub served : r .loads ≡ false → Serves b rec out (r .answer) (boxAfter b r) out′
 
 -- the record of a load on the box; or there is none, and nothing is altered

@@ -2,14 +2,17 @@
 use mathlib.Core.Path.{_≡_, refl, sym, ap, ap₂, _∙_, subst}
 use mathlib.Core.Bool.{cond}
 use mathlib.Core.List.{List, [], _∷_}
-use mathlib.Core.Logic.{inl, inr}
+use mathlib.Core.Logic.{_⊎_, inl, inr}
 use Prim.Native.Nat.{ℕ, _<_}
 use native.Mathlib.Omega.{arith}
 use lib.Dec.{eqb}
 use borrow.Author.Tests.{ne-eqb}
 use lib.ListN.{length, getD}
 use Rattle.answer.specs.declared.Answer.{Answer}
+use Rattle.answer.specs.Numbers.{illFormed}
+use Rattle.answer.specs.Answers.{Is}
 use Rattle.policy.specs.declared.State.{State}
+use Rattle.policy.specs.WellFormed.{WellFormed}
 use Rattle.image.specs.Laws.{load-inside, load-place}
 use Rattle.gate.specs.Small.{begin-small, end-small, ask-small, change-small, bypass-small}
 use Rattle.machine.specs.Machine.{Request, load, begin, end, ask, change, bypass, Step}
@@ -40,7 +43,7 @@ pub record Matched (bs : List ℕ) (q : Request) (rest : List ℕ) : Type 0 wher
   pub recorded : Recorded bs code fields rest
   pub is : q ≡ requestFor code fields
 
-matched : {bs rest : List ℕ} {q : Request} → IsBoxRecord bs q rest → Matched bs q rest
+pub matched : {bs rest : List ℕ} {q : Request} → IsBoxRecord bs q rest → Matched bs q rest
 matched (begins {slot} {role} w) = record { code = 1; fields = (slot ∷ []) ∷ (role ∷ []) ∷ []; recorded = w; is = refl }
 matched (ends {slot} w) = record { code = 2; fields = (slot ∷ []) ∷ []; recorded = w; is = refl }
 matched (asks {slot} {file} {mode} w) = record { code = 3; fields = (slot ∷ []) ∷ (file ∷ []) ∷ (mode ∷ []) ∷ []; recorded = w; is = refl }
@@ -79,7 +82,7 @@ three-bytes {f = f} {g = g} {h = h} more a b c =
 
 -- and every record of the table is the record of a request
 module _ {bs : List ℕ} where
-  is-request : {code : ℕ} {ss : List Shape} {body rest : List ℕ} {fs : List (List ℕ)} → Listed code ss → Fields ss body fs rest → Recorded bs code fs rest
+  pub is-request : {code : ℕ} {ss : List Shape} {body rest : List ℕ} {fs : List (List ℕ)} → Listed code ss → Fields ss body fs rest → Recorded bs code fs rest
       → IsBoxRecord bs (requestFor code fs) rest
   is-request {rest = rest} code-01 (next a (next b none)) w =
       begins (subst (λ (fs : List (List ℕ)). Recorded bs 1 fs rest) (ap₂ (λ (x y : List ℕ). x ∷ y ∷ []) (byte-field a) (byte-field b)) w)
@@ -152,6 +155,31 @@ pub told-apart : {b after : BoxRecord} {rec out out′ : List ℕ} {r : ℕ} →
 told-apart {b} {after} w e =
     let m = w .makes in
     omega (arith, step-small (b .state) (after .state) (w .request) (m .answer) (m .steps), m .packs)
+
+-- a box whose tree has no securon, as zeroed memory is, answers every request but a load with 17
+no-tree : (s t : State) (q : Request) (a : Answer) → s .tree .n ≡ 0 → ((image : List ℕ) → q ≡ load image → ⊥) → Step s q a t → Is a illFormed 0
+no-tree s t q a e = go q
+  where
+    ill : WellFormed s → ⊥
+    ill w = omega (arith, e, w .tree .count .0)
+
+    first : {D : Type 0} → ((WellFormed s → ⊥) × (a .number ≡ illFormed) × (a .place ≡ 0)) ⊎ (WellFormed s × D) → Is a illFormed 0
+    first (inl (n, i, k)) = record { number = i; place = k }
+    first (inr (w, d)) = absurd (ill w)
+
+    go : (q : Request) → ((image : List ℕ) → q ≡ load image → ⊥) → Step s q a t → Is a illFormed 0
+    go (load image) n w = absurd (n image refl)
+    go (begin slot role) n w = first (w .decides)
+    go (end slot) n w = first (w .decides)
+    go (ask slot file mode) n w = first (w .decides)
+    go (change slot file mode x y) n w = first (w .decides)
+    go (bypass slot file mode x y) n w = first (w .decides)
+
+pub zeroed-refuses : {b after : BoxRecord} {q : Request} {r : ℕ} → b .state .tree .n ≡ 0 → ((image : List ℕ) → q ≡ load image → ⊥) → Makes b q r after
+    → r ≡ illFormed
+zeroed-refuses {b} {after} {q} e n w =
+    let i = no-tree (b .state) (after .state) q (w .answer) e n (w .steps) in
+    omega (arith, w .packs, i .number, i .place)
 
 -- one number and one box for every request that is made of a box
 pub record SameBox (r s : ℕ) (x y : BoxRecord) : Type 0 where

@@ -10,7 +10,7 @@ use lib.Dec.{eqb}
 use lib.Seq.{take-at, drop-at, length-take-le, getD-drop}
 use Rattle.records.specs.declared.Parted.{Parted}
 use Rattle.records.specs.Records.{Shape, Byte, Short, Long, Quad, Listed, code-01, code-02, code-03, code-04, code-05, code-06}
-use Rattle.records.specs.Records.{longestRecord, lead, size, Field, Fields, none, next, Recorded, spans, filledUp, Stands, PartedIs}
+use Rattle.records.specs.Records.{longestInTable, lead, size, Field, Fields, none, next, Recorded, spans, filledUp, Stands, PartedIs}
 
 -- numbers of a list that are bytes; the sum of a list
 abbrev pub AllBytes : List ℕ → Type 0
@@ -150,7 +150,7 @@ pub fields-most : {ss : List Shape} {l rest : List ℕ} {fs : List (List ℕ)} �
 fields-most none h = omega arith
 fields-most (next a x) h = omega (arith, field-most a h, fields-most x (rest-bytes a h))
 
-line-most : {code : ℕ} {ss : List Shape} → Listed code ss → 1 + sum (map most ss) ≤ longestRecord
+line-most : {code : ℕ} {ss : List Shape} → Listed code ss → 1 + sum (map most ss) ≤ longestInTable
 line-most code-01 = omega arith
 line-most code-02 = omega arith
 line-most code-03 = omega arith
@@ -159,13 +159,67 @@ line-most code-05 = omega arith
 line-most code-06 = omega arith
 
 -- no record of bytes is longer than the longest
-pub record-most : {bs rest : List ℕ} {code : ℕ} {fs : List (List ℕ)} → Recorded bs code fs rest → AllBytes bs → length bs ≤ longestRecord + length rest
+pub record-most : {bs rest : List ℕ} {code : ℕ} {fs : List (List ℕ)} → Recorded bs code fs rest → AllBytes bs → length bs ≤ longestInTable + length rest
 record-most w h =
     let body : AllBytes (w .body) = λ k. subst (λ (l : List ℕ). getD l (suc k) 0 < 256) (w .is) (h (suc k)) in
     omega (arith, ap length (w .is), fields-most (w .fields) body, line-most (w .listed))
 
-pub longest-record-is : longestRecord ≡ 65538
+pub longest-record-is : longestInTable ≡ 65538
 longest-record-is = refl
+
+-- the bytes of a record at the front of others are one alone
+pub record FrontRecord (bs : List ℕ) (code : ℕ) (fs : List (List ℕ)) (rest : List ℕ) : Type 0 where
+  pub front : List ℕ
+  pub is : bs ≡ front ++ rest
+  pub recorded : Recorded front code fs []
+
+fields-alone : {ss : List Shape} {l rest : List ℕ} {fs : List (List ℕ)} → Fields ss l fs rest → (u : List ℕ) × (l ≡ u ++ rest) × Fields ss u fs []
+fields-alone none = ([], refl, none)
+fields-alone {rest = rest} (next {f = f} a x) =
+    let v = fields-alone x in
+    let number = a .number in
+    let u = v .0 in
+    let e = a .is ∙ ap (λ (m : List ℕ). number ++ (f ++ m)) (v .1) in
+    let whole = ap (λ (m : List ℕ). number ++ m) (sym (append-assoc f u rest)) ∙ sym (append-assoc number (f ++ u) rest) in
+    (number ++ (f ++ u), e ∙ whole, next (record { number = number; leads = a .leads; sized = a .sized; is = refl }) (v .2))
+
+pub record-alone : {bs rest : List ℕ} {code : ℕ} {fs : List (List ℕ)} → Recorded bs code fs rest → FrontRecord bs code fs rest
+record-alone {code = code} w =
+    let v = fields-alone (w .fields) in
+    let body = v .0 in
+    record {
+      front = code ∷ body;
+      is = w .is ∙ ap (λ (l : List ℕ). code ∷ l) (v .1);
+      recorded = record { shapes = w .shapes; listed = w .listed; body = body; is = refl; fields = v .2 };
+    }
+
+-- so many bytes as the longest record has decide whether one stands at their front, whatever follows them
+module _ (s : Shape) (l more : List ℕ) (h : AllBytes l) (enough : most s ≤ length l) where
+  pub field-there-already : {f mid : List ℕ} → Field s (l ++ more) f mid → Field s l f (restIn s l) × (mid ≡ restIn s l ++ more)
+  field-there-already w =
+      let here = field-there s l (omega (arith, number-most s l h)) in
+      let o = one-field w (field-onward here more) in
+      (subst (λ (f : List ℕ). Field s l f (restIn s l)) (sym (o .0)) here, o .1)
+
+fields-there-already : (ss : List Shape) (l more : List ℕ) {rest : List ℕ} {fs : List (List ℕ)} → AllBytes l → sum (map most ss) ≤ length l
+    → Fields ss (l ++ more) fs rest → (r : List ℕ) × Fields ss l fs r
+fields-there-already [] l more h enough none = (l, none)
+fields-there-already (s ∷ ss) l more {rest} h enough (next {fs = fs} a x) =
+    let here = field-there-already s l more h (omega arith) a in
+    let left = restIn s l in
+    let v = fields-there-already ss left more (rest-bytes (here .0) h) (omega (arith, field-most (here .0) h))
+    (subst (λ (m : List ℕ). Fields ss m fs rest) (here .1) x) in
+    (v .0, next (here .0) (v .1))
+
+pub record-decided : (bs more : List ℕ) {rest : List ℕ} {code : ℕ} {fs : List (List ℕ)} → AllBytes bs → longestInTable ≤ length bs
+    → Recorded (bs ++ more) code fs rest → (r : List ℕ) × Recorded bs code fs r
+record-decided [] more h enough w = absurd (omega arith)
+record-decided (b ∷ l) more {rest} {code} {fs} h enough w =
+    let body = tail-eq-of-cons-eq (w .is) in
+    let there = subst (λ (m : List ℕ). Fields (w .shapes) m fs rest) (sym body) (w .fields) in
+    let v = fields-there-already (w .shapes) l more (λ k. h (suc k)) (omega (arith, line-most (w .listed))) there in
+    let code-is = ap (λ (c : ℕ). c ∷ l) (head-eq-of-cons-eq (w .is)) in
+    (v .0, record { shapes = w .shapes; listed = w .listed; body = l; is = code-is; fields = v .1 })
 
 -- reading the front of any bytes tells one thing
 stands-one : {bs : List ℕ} {r q : Parted} → Stands bs r → Stands bs q → r ≡ q

@@ -25,12 +25,13 @@ pub data Listed : ℕ → List Shape → Type 0 where
   code-05 : Listed 5 (Byte ∷ Byte ∷ Byte ∷ Short ∷ Short ∷ [])
   code-06 : Listed 6 (Long ∷ [])
 
+-- the most fields that a record has
 abbrev pub mostFields : ℕ
 mostFields = 8
 
 -- the bytes of the longest record: the code, two bytes of number, and as many as they can say
-abbrev pub longestRecord : ℕ
-longestRecord = 1 + (2 + 65535)
+abbrev pub longestInTable : ℕ
+longestInTable = 1 + (2 + 65535)
 
 -- how many bytes of number stand before a field; by that number, how many bytes the field has
 abbrev pub lead : Shape → ℕ

@@ -9,7 +9,7 @@ use Rattle.policy.specs.declared.State.{State}
 use Rattle.policy.specs.State.{freshState}
 use Rattle.fields.specs.Parts.{lowFirst}
 use Rattle.image.specs.Image.{expressionBytes}
-use Rattle.machine.specs.Machine.{Request, load, begin, end, ask, change, bypass, Step}
+use Rattle.machine.specs.Machine.{Request, load, begin, end, ask, change, bypass, Step, GateEvent}
 use Rattle.lines.specs.Lines.{Line}
 
 -- the bytes are the record of a request, and what comes after it:
@@ -30,6 +30,12 @@ longestRecord = 516
 -- `cut` and a line end
 abbrev pub cutLine : List ℕ
 cutLine = 99 ∷ 117 ∷ 116 ∷ 10 ∷ []
+
+-- the lines of these answers, one after another
+pub data AnswerLines : List GateEvent → List ℕ → Type 0 where
+  no-lines : AnswerLines [] []
+  line-then : {e : GateEvent} {es : List GateEvent} {line lines : List ℕ} → Line (e .answer) [] line → AnswerLines es lines
+      → AnswerLines (e ∷ es) (line ++ lines)
 
 -- from the state s these bytes print this: per call the number, a space, the place, and a line end; a broken-off or unknown record prints `cut` and
 -- stops; input that ends between two records ends the run with no further line

@@ -358,7 +358,7 @@ pub fn run(input: &[u8], out: &mut [u8]) -> usize
 }
 
 // Whether what comes next can be played: so many bytes are left, or all that there are, and the output has room for a line.
-fn may_play(enough: usize, ends: bool, left: usize, room: usize) -> bool
+pub fn may_play(enough: usize, ends: bool, left: usize, room: usize) -> bool
     ensures { λ r. ⌜ MayPlay enough ends left room r ⌝ }
 {
     if room < lines::PRINTED {

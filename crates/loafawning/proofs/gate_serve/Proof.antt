@@ -390,7 +390,8 @@ module _ {M : Type 1} (𝓤 : URA M) (H : Heap 𝓤) (A : Atoms 𝓤) (W : Given
         -- the borrow is closed at the box with what came back
         rewrite ! 5 (λ (us : List Val). ‵ (fat fullShare T′.mir b o (machWith (setSlots (h .state) (r .slots)) us)))
         (vals-set (h .state .files) (r .at) (r .file)) refl $
-        move ! (5 ∷ []) $ use1 W (‵ (cellAt fullShare (T.the-row .mir) (mach (boxAfter h r) ∷ []) b o)) (W .laws .at-raw fullShare T′.mir b o (mach (boxAfter h r))) $
+        move ! (5 ∷ []) $
+        use1 W (‵ (cellAt fullShare (T.the-row .mir) (mach (boxAfter h r) ∷ []) b o)) (W .laws .at-raw fullShare T′.mir b o (mach (boxAfter h r))) $
         move ! (1 ∷ []) $ drop ! $ owned ! T.the-row (Is T.the-row) (LL.makes T.the-type T′.the-plain 𝓤 H A) (boxAfter h r) _ (left-is h was r _ is) $
         move ! (1 ∷ 0 ∷ 6 ∷ 7 ∷ 8 ∷ []) $ closes ! tt T.the-row (boxAfter h r) (mach (boxAfter h r) ∷ []) b o $
         -- [obs; the borrow; the token; the slices' tokens; the last bytes; true; what `rec` owns; _13; ..; _0; ..]. _6 is not used
