@@ -161,7 +161,7 @@ fn of_box(kind: &str) -> bool {
 fn none_kind(record: &[u8]) -> &'static str {
     match record {
         [] => "nothing at all",
-        [0 | 7.., ..] => "an unknown code",
+        [0 | 7..=255, ..] => "an unknown code",
         _ if whole(record).is_some() => "bytes after a whole one",
         _ => "cut off",
     }
