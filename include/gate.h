@@ -1,5 +1,5 @@
 /*
- * The gate, for C and C++. Link with libloafawning.a (`rt staticlib loafawning`); x86-64.
+ * The gate, for C and C++. Link with libloafawning.a (`./archive`); x86-64.
  *
  * Every function of the library is proved to return, whatever bytes it is given, with the one
  * answer that the rules leave. Those that are written out here (`static inline`) build records for

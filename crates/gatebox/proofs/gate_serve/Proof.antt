@@ -1,4 +1,4 @@
--- `loafawning::gate_serve` meets its contract: a walk of its MIR, by hand. The borrow of the box is opened, the box is copied out whole and passed to
+-- `gatebox::gate_serve` meets its contract: a walk of its MIR, by hand. The borrow of the box is opened, the box is copied out whole and passed to
 -- `serve_record` with both slices. Of a load, `load_record` is called, and the box that it gives is stored over the box; of any other, the file and the
 -- slots that came back are stored in the box. The borrow is closed at that box. `out` is passed on for good. Assumes nothing.
 use mathlib.Core.Path.{_≡_, refl, sym, _∙_, ap, subst}
@@ -76,11 +76,11 @@ use Rattle.door.proofs.load_record as loading
 use Rattle.door.proofs.load_record.Symbol as loading-def
 use Rattle.door.proofs.load_record.Symbol.{name as #door·load-record}
 use Rattle.door.proofs.load_record.Met as loading-thm
-use Rattle.loafawning.proofs.Elem.{map-set, elem, is-set}
-use Rattle.loafawning.proofs.gate_serve.Key.{name as #loafawning·gate-serve}
-use Rattle.loafawning.proofs.gate_serve as f
-use Rattle.loafawning.proofs.gate_serve.Statement as stated
-use Rattle.loafawning.proofs.gate_serve.Code as code
+use Rattle.gatebox.proofs.Elem.{map-set, elem, is-set}
+use Rattle.gatebox.proofs.gate_serve.Key.{name as #gatebox·gate-serve}
+use Rattle.gatebox.proofs.gate_serve as f
+use Rattle.gatebox.proofs.gate_serve.Statement as stated
+use Rattle.gatebox.proofs.gate_serve.Code as code
 
 abbrev Arg : Type 0
 Arg = RefT BoxRecord × (RefT (List ℕ) × (RefT (List ℕ) × Unit {0}))
@@ -432,7 +432,7 @@ pub gate-serve-spec : {M : Type 1} → stated.statement M
 unfolding code.routine tablesOf
 gate-serve-spec 𝓤 H 𝓜 𝓖 𝓡 =
     entered 𝓤 H (tripleOf 𝓤 H (𝓖 .A) f.signature (f.spec 𝓤 H (𝓖 .A) (𝓜 .mem) (𝓡 .run)))
-    (tables 𝓤 H 𝓜 𝓡 code.env .C) (tables 𝓤 H 𝓜 𝓡 code.env .Λ) #loafawning·gate-serve code.function (code.unfolded 𝓤 H 𝓜 𝓡)
+    (tables 𝓤 H 𝓜 𝓡 code.env .C) (tables 𝓤 H 𝓜 𝓡 code.env .Λ) #gatebox·gate-serve code.function (code.unfolded 𝓤 H 𝓜 𝓡)
     (meets 𝓤 H (𝓖 .A) (givenOf 𝓤 H 𝓜 𝓖) (𝓜 .mem) (𝓡 .run) (tablesOf 𝓤 H 𝓜 (tables 𝓤 H 𝓜 𝓡 code.env))
     (cited 𝓤 H (Serving 𝓤 H (𝓖 .A) (𝓜 .mem) (𝓡 .run)) 𝓜 𝓡 code.env #door·serve-record serving-def.routine
     code.calls-door·serve-record (serving-thm.met 𝓤 H 𝓜 𝓖 𝓡))

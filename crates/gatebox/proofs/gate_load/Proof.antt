@@ -1,4 +1,4 @@
--- `loafawning::gate_load` meets its contract: a walk of its MIR, by hand. The borrow of the box is opened, the box is copied out whole and passed to
+-- `gatebox::gate_load` meets its contract: a walk of its MIR, by hand. The borrow of the box is opened, the box is copied out whole and passed to
 -- `load_box` with the slice, the box that comes back is stored over it, and the borrow is closed at that box. Assumes nothing.
 use mathlib.Core.Path.{refl, ap}
 use Prim.Native.Nat.{ℕ, _<_, _^_}
@@ -53,10 +53,10 @@ use Rattle.door.proofs.load_box as loading
 use Rattle.door.proofs.load_box.Symbol as loading-def
 use Rattle.door.proofs.load_box.Symbol.{name as #door·load-box}
 use Rattle.door.proofs.load_box.Met as loading-thm
-use Rattle.loafawning.proofs.gate_load.Key.{name as #loafawning·gate-load}
-use Rattle.loafawning.proofs.gate_load as f
-use Rattle.loafawning.proofs.gate_load.Statement as stated
-use Rattle.loafawning.proofs.gate_load.Code as code
+use Rattle.gatebox.proofs.gate_load.Key.{name as #gatebox·gate-load}
+use Rattle.gatebox.proofs.gate_load as f
+use Rattle.gatebox.proofs.gate_load.Statement as stated
+use Rattle.gatebox.proofs.gate_load.Code as code
 
 abbrev Arg : Type 0
 Arg = RefT BoxRecord × (RefT (List ℕ) × Unit {0})
@@ -197,7 +197,7 @@ pub gate-load-spec : {M : Type 1} → stated.statement M
 unfolding code.routine tablesOf
 gate-load-spec 𝓤 H 𝓜 𝓖 𝓡 =
     entered 𝓤 H (tripleOf 𝓤 H (𝓖 .A) f.signature (f.spec 𝓤 H (𝓖 .A) (𝓜 .mem) (𝓡 .run)))
-    (tables 𝓤 H 𝓜 𝓡 code.env .C) (tables 𝓤 H 𝓜 𝓡 code.env .Λ) #loafawning·gate-load code.function (code.unfolded 𝓤 H 𝓜 𝓡)
+    (tables 𝓤 H 𝓜 𝓡 code.env .C) (tables 𝓤 H 𝓜 𝓡 code.env .Λ) #gatebox·gate-load code.function (code.unfolded 𝓤 H 𝓜 𝓡)
     (meets 𝓤 H (𝓖 .A) (givenOf 𝓤 H 𝓜 𝓖) (𝓜 .mem) (𝓡 .run) (tablesOf 𝓤 H 𝓜 (tables 𝓤 H 𝓜 𝓡 code.env))
     (cited 𝓤 H (Loading 𝓤 H (𝓖 .A) (𝓜 .mem) (𝓡 .run)) 𝓜 𝓡 code.env #door·load-box loading-def.routine
     code.calls-door·load-box (loading-thm.met 𝓤 H 𝓜 𝓖 𝓡)))

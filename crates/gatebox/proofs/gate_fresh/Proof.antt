@@ -1,4 +1,4 @@
--- `loafawning::gate_fresh` meets its contract: a walk of its MIR, by hand. The borrow of the box is opened, `fresh_box` is called, what it gives is stored
+-- `gatebox::gate_fresh` meets its contract: a walk of its MIR, by hand. The borrow of the box is opened, `fresh_box` is called, what it gives is stored
 -- over the box, and the borrow is closed at that box. Assumes nothing.
 use mathlib.Core.Path.{_≡_, refl, ap, subst}
 use Prim.Native.Nat.{ℕ}
@@ -44,10 +44,10 @@ use Rattle.door.proofs.fresh_box as fresh
 use Rattle.door.proofs.fresh_box.Symbol as fresh-def
 use Rattle.door.proofs.fresh_box.Symbol.{name as #door·fresh-box}
 use Rattle.door.proofs.fresh_box.Met as fresh-thm
-use Rattle.loafawning.proofs.gate_fresh.Key.{name as #loafawning·gate-fresh}
-use Rattle.loafawning.proofs.gate_fresh as f
-use Rattle.loafawning.proofs.gate_fresh.Statement as stated
-use Rattle.loafawning.proofs.gate_fresh.Code as code
+use Rattle.gatebox.proofs.gate_fresh.Key.{name as #gatebox·gate-fresh}
+use Rattle.gatebox.proofs.gate_fresh as f
+use Rattle.gatebox.proofs.gate_fresh.Statement as stated
+use Rattle.gatebox.proofs.gate_fresh.Code as code
 
 abbrev Arg : Type 0
 Arg = RefT BoxRecord × Unit {0}
@@ -153,7 +153,7 @@ pub gate-fresh-spec : {M : Type 1} → stated.statement M
 unfolding code.routine tablesOf
 gate-fresh-spec 𝓤 H 𝓜 𝓖 𝓡 =
     entered 𝓤 H (tripleOf 𝓤 H (𝓖 .A) f.signature (f.spec 𝓤 H (𝓖 .A) (𝓜 .mem) (𝓡 .run)))
-    (tables 𝓤 H 𝓜 𝓡 code.env .C) (tables 𝓤 H 𝓜 𝓡 code.env .Λ) #loafawning·gate-fresh code.function (code.unfolded 𝓤 H 𝓜 𝓡)
+    (tables 𝓤 H 𝓜 𝓡 code.env .C) (tables 𝓤 H 𝓜 𝓡 code.env .Λ) #gatebox·gate-fresh code.function (code.unfolded 𝓤 H 𝓜 𝓡)
     (meets 𝓤 H (𝓖 .A) (givenOf 𝓤 H 𝓜 𝓖) (𝓜 .mem) (𝓡 .run) (tablesOf 𝓤 H 𝓜 (tables 𝓤 H 𝓜 𝓡 code.env))
     (cited 𝓤 H (Fresh 𝓤 H (𝓖 .A) (𝓜 .mem) (𝓡 .run)) 𝓜 𝓡 code.env #door·fresh-box fresh-def.routine
     code.calls-door·fresh-box (fresh-thm.met 𝓤 H 𝓜 𝓖 𝓡)))
