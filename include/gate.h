@@ -131,8 +131,8 @@ static inline const char *gate_words(uint32_t number) {
  * thread (tests/c/stack.c). That is not proved.
  */
 #define GATE_TEXT_STACK 655360   /* gate_text                                                    */
-#define GATE_REPLAY_STACK 393216 /* gate_replay                                                  */
-#define GATE_BOX_STACK 327680    /* every call on a box                                          */
+#define GATE_REPLAY_STACK 327680 /* gate_replay                                                  */
+#define GATE_BOX_STACK 393216    /* every call on a box                                          */
 
 /* ---- The box ------------------------------------------------------------------------------- */
 

@@ -23,10 +23,10 @@ pub const MOST_BYTES: usize = 48;
 pub const TEXT_STACK: usize = 655_360;
 
 /// As many bytes of stack as a thread has to have for [`replay`] and [`replay_into`].
-pub const REPLAY_STACK: usize = 393_216;
+pub const REPLAY_STACK: usize = 327_680;
 
 /// As many bytes of stack as a thread has to have for the calls on a [`ParkBox`].
-pub const BOX_STACK: usize = 327_680;
+pub const BOX_STACK: usize = 393_216;
 
 /// The room did not suffice: it has the output's first bytes, as many as it holds.
 #[derive(Clone, Copy, Debug, PartialEq, Eq)]
