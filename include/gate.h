@@ -127,7 +127,7 @@ static inline const char *gate_words(uint32_t number) {
 /*
  * No call uses a heap. A thread whose stack has this many bytes has enough for the call: measured
  * on the worst inputs that were found (a text of 512 opening parentheses needs 541 KB; the longest
- * image and its requests 321 KB in a replay, 267 KB on a box), with a margin, and tested in such a
+ * image and its requests 231 KB in a replay, 316 KB on a box), with a margin, and tested in such a
  * thread (tests/c/stack.c). That is not proved.
  */
 #define GATE_TEXT_STACK 655360   /* gate_text                                                    */
