@@ -4,6 +4,7 @@
 //!     compare --kept [and the same]               boxes that are kept, call by call
 //!     compare --program PATH [--seed N]           the program `replay` there, on long inputs
 //!     compare --parkbox PATH [--seed N]           the program `parkbox` there, on long inputs
+//!     compare --parkbox-few PATH [--seed N]       the same on short inputs alone
 //!     compare --turn PATH [--seed N]              the program `turn` there, on many lines
 //!     compare --vectors PATH [--seed N]           the program `vectors` there, on made states
 //!     compare --replay < HEX                      one input, both outputs
@@ -47,10 +48,12 @@ fn main() -> ExitCode {
     let done = match words.first().map(String::as_str) {
         Some(which @ ("--replay" | "--text" | "--records")) => one(which),
         Some("--kept") => options(&words[1..]).and_then(|(seed, times)| kept::compare(seed, times)),
-        Some(which @ ("--program" | "--parkbox" | "--turn" | "--vectors")) => match words.get(1) {
-            Some(path) => options(&words[2..]).and_then(|(seed, _)| program(which, path, seed)),
-            None => Err(format!("{which} needs a path")),
-        },
+        Some(which @ ("--program" | "--parkbox" | "--parkbox-few" | "--turn" | "--vectors")) => {
+            match words.get(1) {
+                Some(path) => options(&words[2..]).and_then(|(seed, _)| program(which, path, seed)),
+                None => Err(format!("{which} needs a path")),
+            }
+        }
         _ => options(&words).and_then(|(seed, times)| run(seed, times)),
     };
     match done {
@@ -88,6 +91,7 @@ fn options(words: &[String]) -> Result<(u64, usize), String> {
 fn program(which: &str, path: &str, seed: u64) -> Result<String, String> {
     match which {
         "--parkbox" => parkbox::compare(path, seed),
+        "--parkbox-few" => parkbox::few(path, seed),
         "--turn" => turn::compare(path, seed),
         "--vectors" => made::compare(path, seed),
         _ => {

@@ -52,6 +52,30 @@ pub fn compare(path: &str, seed: u64) -> Result<String, String> {
     reached.said(inputs, loads)
 }
 
+/// Runs the program on the short ones of the drawn inputs alone, for a program that is watched and
+/// slow for it. Each ends by itself or is cut.
+pub fn few(path: &str, seed: u64) -> Result<String, String> {
+    let mut reached = Reached::default();
+    for round in (0..INPUTS).step_by(4) {
+        let mut draw = Draw::new(seed, PART, round);
+        let input = drawn(&mut draw, round);
+        let piece = input.len().max(1);
+        reached.one(path, &input, piece, &format!("seed {seed}, input {round}"))?;
+    }
+    let Reached {
+        inputs,
+        bytes,
+        lines,
+        ..
+    } = reached;
+    if lines < 1_000 {
+        return Err(format!("parkbox printed {lines} lines, under 1000"));
+    }
+    Ok(format!(
+        "compare: {inputs} short inputs to parkbox, {bytes} bytes, {lines} lines, no difference"
+    ))
+}
+
 /// What was reached: inputs, their bytes and the longest, the lines that they print, granted loads
 /// among them, and how many end in `cut`; the numbers that were printed.
 #[derive(Default)]
