@@ -15,6 +15,10 @@ use Rattle.gate.specs.Effects.{effectOf}
 abbrev pub Seen : ℕ → ℕ → Examined → Type 0
 Seen slot file seen = (s : State) × Examines s slot file seen
 
+-- the same, whatever the file
+abbrev pub SeenAt : ℕ → Examined → Type 0
+SeenAt slot seen = (file : ℕ) × Seen slot file seen
+
 -- P holds of every state that is seen so at its examination, for that slot and that file
 abbrev pub Of : ℕ → ℕ → Examined → (State → Type 0) → Type 0
 Of slot file seen P = (s : State) → Examines s slot file seen → P s

@@ -13,7 +13,7 @@ ghost use Rattle.policy.specs.State.{slotCount, IsMode, filePlace};
 ghost use Rattle.gate.specs.Requests.{slotConditions, sessionConditions, rowConditions, storeConditions, beginConditions};
 ghost use Rattle.gate.specs.Requests.{askConditions, bypassConditions, Begins, Ends, Asks, Changes, Bypasses};
 ghost use Rattle.gate.specs.Effects.{effectOf, Tells};
-ghost use Rattle.gate.specs.Parts.{Seen, Of, OfAll, StoredIs};
+ghost use Rattle.gate.specs.Parts.{Seen, SeenAt, Of, OfAll, StoredIs};
 
 // What a request comes to: the answer, and all of the state that it may alter, as it is after the request: the slots, and a file with its
 // number. For a caller whose state lives in a variable: it stores both there, and no state is copied.
@@ -200,11 +200,11 @@ fn store_effect(seen: Examined, judged: Answer, mode: u8, part: usize, x: &[u8],
     file_effect(seen, judged, old)
 }
 
-// begin(slot, role): a free slot is to hold the role asked for.
-pub fn begin(s: State, slot: u8, role: u8) -> Effect
-    ensures { λ r. ⌜ Tells s (Begins s slot role) r ⌝ }
+// begin(slot, role) on the state that was seen so: a free slot is to hold the role asked for.
+pub fn begin_seen(seen: Examined, slot: u8, role: u8) -> Effect
+    requires { ⌜ SeenAt slot seen ⌝ }
+    ensures { λ r. ⌜ OfAll slot seen (λ s. Tells s (Begins s slot role) r) ⌝ }
 {
-    let seen = s.examine(slot as usize, 0);
     let answer = begin_answer(seen, slot, role);
     if answer.granted() {
         return slot_effect(seen, answer, slot as usize, policy::held_by(role));
@@ -213,11 +213,11 @@ pub fn begin(s: State, slot: u8, role: u8) -> Effect
     file_effect(seen, answer, old)
 }
 
-// end(slot): the slot is to be free.
-pub fn end(s: State, slot: u8) -> Effect
-    ensures { λ r. ⌜ Tells s (Ends s slot) r ⌝ }
+// end(slot) on the state that was seen so: the slot is to be free.
+pub fn end_seen(seen: Examined, slot: u8) -> Effect
+    requires { ⌜ SeenAt slot seen ⌝ }
+    ensures { λ r. ⌜ OfAll slot seen (λ s. Tells s (Ends s slot) r) ⌝ }
 {
-    let seen = s.examine(slot as usize, 0);
     let answer = session_answer(seen, slot);
     if answer.granted() {
         return slot_effect(seen, answer, slot as usize, policy::FREE);
@@ -226,30 +226,70 @@ pub fn end(s: State, slot: u8) -> Effect
     file_effect(seen, answer, old)
 }
 
-// ask(slot, file, mode): whether the session's role may act on the file in that mode. Alters nothing.
-pub fn ask(s: State, slot: u8, file: u8, mode: u8) -> Effect
-    ensures { λ r. ⌜ Tells s (Asks s slot file mode) r ⌝ }
+// ask(slot, file, mode) on the state that was seen so: whether the session's role may act on the file in that mode. Alters nothing.
+pub fn ask_seen(seen: Examined, slot: u8, file: u8, mode: u8) -> Effect
+    requires { ⌜ Seen slot file seen ⌝ }
+    ensures { λ r. ⌜ Of slot file seen (λ s. Tells s (Asks s slot file mode) r) ⌝ }
 {
-    let seen = s.examine(slot as usize, file as usize);
     let answer = ask_answer(seen, slot, file, mode);
     let old = seen.file;
     file_effect(seen, answer, old)
 }
 
-// change(slot, file, mode, T1, T2): both are to be stored in the file's row of that mode.
-pub fn change(s: State, slot: u8, file: u8, mode: u8, t1: &[u8], t2: &[u8]) -> Effect
-    ensures { λ r. ⌜ Tells s (Changes s slot file mode (now (t1 .entry)) (now (t2 .entry))) r ⌝ }
+// change(slot, file, mode, T1, T2) on the state that was seen so: both are to be stored in the file's row of that mode.
+pub fn change_seen(seen: Examined, slot: u8, file: u8, mode: u8, t1: &[u8], t2: &[u8]) -> Effect
+    requires { ⌜ Seen slot file seen ⌝ }
+    ensures { λ r. ⌜ Of slot file seen (λ s. Tells s (Changes s slot file mode (now (t1 .entry)) (now (t2 .entry))) r) ⌝ }
 {
-    let seen = s.examine(slot as usize, file as usize);
     let answer = store_answer(seen, slot, file, mode, Kind::Protection, t1, t2);
     store_effect(seen, answer, mode, policy::T1, t1, t2)
 }
 
-// bypass(slot, file, mode, E, G): both are to be stored in the file's row of that mode.
+// bypass(slot, file, mode, E, G) on the state that was seen so: both are to be stored in the file's row of that mode.
+pub fn bypass_seen(seen: Examined, slot: u8, file: u8, mode: u8, e: &[u8], g: &[u8]) -> Effect
+    requires { ⌜ Seen slot file seen ⌝ }
+    ensures { λ r. ⌜ Of slot file seen (λ s. Tells s (Bypasses s slot file mode (now (e .entry)) (now (g .entry))) r) ⌝ }
+{
+    let answer = bypass_answer(seen, slot, file, mode, e, g);
+    store_effect(seen, answer, mode, policy::E, e, g)
+}
+
+// begin(slot, role).
+pub fn begin(s: State, slot: u8, role: u8) -> Effect
+    ensures { λ r. ⌜ Tells s (Begins s slot role) r ⌝ }
+{
+    let seen = s.examine(slot as usize, 0);
+    begin_seen(seen, slot, role)
+}
+
+// end(slot).
+pub fn end(s: State, slot: u8) -> Effect
+    ensures { λ r. ⌜ Tells s (Ends s slot) r ⌝ }
+{
+    let seen = s.examine(slot as usize, 0);
+    end_seen(seen, slot)
+}
+
+// ask(slot, file, mode).
+pub fn ask(s: State, slot: u8, file: u8, mode: u8) -> Effect
+    ensures { λ r. ⌜ Tells s (Asks s slot file mode) r ⌝ }
+{
+    let seen = s.examine(slot as usize, file as usize);
+    ask_seen(seen, slot, file, mode)
+}
+
+// change(slot, file, mode, T1, T2).
+pub fn change(s: State, slot: u8, file: u8, mode: u8, t1: &[u8], t2: &[u8]) -> Effect
+    ensures { λ r. ⌜ Tells s (Changes s slot file mode (now (t1 .entry)) (now (t2 .entry))) r ⌝ }
+{
+    let seen = s.examine(slot as usize, file as usize);
+    change_seen(seen, slot, file, mode, t1, t2)
+}
+
+// bypass(slot, file, mode, E, G).
 pub fn bypass(s: State, slot: u8, file: u8, mode: u8, e: &[u8], g: &[u8]) -> Effect
     ensures { λ r. ⌜ Tells s (Bypasses s slot file mode (now (e .entry)) (now (g .entry))) r ⌝ }
 {
     let seen = s.examine(slot as usize, file as usize);
-    let answer = bypass_answer(seen, slot, file, mode, e, g);
-    store_effect(seen, answer, mode, policy::E, e, g)
+    bypass_seen(seen, slot, file, mode, e, g)
 }

@@ -24,14 +24,23 @@ pub extern "C" fn gate_load(b: &mut BoxRecord, image: &[u8]) -> u64
 }
 
 // One whole record and nothing after it, on the box. What bytes the call gives out go to the front of out. The answer's number, and 256 times its place.
-// Of the box only what can change is stored.
+// The box is read by its parts, which are passed on where they stand; only what can change is stored.
 #[no_mangle]
 pub extern "C" fn gate_serve(b: &mut BoxRecord, rec: &[u8], out: &mut [u8]) -> u64
     ensures { λ r. ⌜ Serves (now (b .entry)) (now (rec .entry)) (now (out .entry)) r (now (b .exit)) (now (out .exit)) ⌝ }
 {
-    let v = *b;
-    let r = door::serve_record(v, rec, out);
+    let r = door::serve_parts(
+        b.state.tree,
+        b.state.nroles,
+        b.state.roles,
+        b.state.nfiles,
+        b.state.files,
+        b.state.slots,
+        rec,
+        out,
+    );
     if r.loads {
+        let v = *b;
         let l = door::load_record(v, rec);
         *b = l.after;
         return l.answer;

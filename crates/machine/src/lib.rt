@@ -1,11 +1,13 @@
 // The machine as one function: any request, by its code, on a state (01, "Requests").
 use answer::Answer;
 use gate::Effect;
+use policy::Examined;
 use policy::State;
 ghost use mathlib.Core.Path.{_≡_};
 ghost use Prim.Native.Nat.{_<_};
 ghost use Rattle.policy.specs.State.{mostFiles};
 ghost use Rattle.gate.specs.Effects.{after, Tells};
+ghost use Rattle.gate.specs.Parts.{Seen, Of};
 ghost use Rattle.machine.specs.Machine.{Step};
 ghost use Rattle.machine.specs.Served.{requestOf};
 
@@ -26,24 +28,33 @@ pub struct Served {
     pub state: State,
 }
 
-// What a request other than load comes to: the gate's function for its code.
+// What a request other than load comes to on the state that was seen so, for its slot and the file that `a` names: the gate's function for its code.
+pub fn effect_seen(seen: Examined, code: u8, slot: u8, a: u8, b: u8, x: &[u8], y: &[u8]) -> Effect
+    requires { ⌜ (0 < code) × Seen slot a seen ⌝ }
+    ensures { λ r. ⌜ Of slot a seen (λ s. Tells s (λ o. Step s (requestOf code slot a b (now (x .entry)) (now (y .entry))) (o .answer) (o .state)) r) ⌝ }
+{
+    if code == BEGIN {
+        return gate::begin_seen(seen, slot, a);
+    }
+    if code == END {
+        return gate::end_seen(seen, slot);
+    }
+    if code == ASK {
+        return gate::ask_seen(seen, slot, a, b);
+    }
+    if code == CHANGE {
+        return gate::change_seen(seen, slot, a, b, x, y);
+    }
+    gate::bypass_seen(seen, slot, a, b, x, y)
+}
+
+// What a request other than load comes to.
 pub fn effect_of(s: State, code: u8, slot: u8, a: u8, b: u8, x: &[u8], y: &[u8]) -> Effect
     requires { ⌜ 0 < code ⌝ }
     ensures { λ r. ⌜ Tells s (λ o. Step s (requestOf code slot a b (now (x .entry)) (now (y .entry))) (o .answer) (o .state)) r ⌝ }
 {
-    if code == BEGIN {
-        return gate::begin(s, slot, a);
-    }
-    if code == END {
-        return gate::end(s, slot);
-    }
-    if code == ASK {
-        return gate::ask(s, slot, a, b);
-    }
-    if code == CHANGE {
-        return gate::change(s, slot, a, b, x, y);
-    }
-    gate::bypass(s, slot, a, b, x, y)
+    let seen = s.examine(slot as usize, a as usize);
+    effect_seen(seen, code, slot, a, b, x, y)
 }
 
 // The state with an effect's slots and its file stored, and the answer.

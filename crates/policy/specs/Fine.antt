@@ -101,3 +101,7 @@ pub record StateFine (s : State) (d : ℕ) : Type 0 where
   pub roles : AllAre roleShelves (roleUsed s) (s .tree .n) d (s .roles)
   pub files : AllAre fileShelves (fileUsed s) (s .tree .n) d (s .files)
   pub slots : SlotsAre (s .nroles) (s .slots)
+
+-- the state with these parts
+abbrev pub stateOfParts : Tree → ℕ → List Role → ℕ → List File → List ℕ → State
+stateOfParts tree nroles roles nfiles files slots = record { tree = tree; nroles = nroles; roles = roles; nfiles = nfiles; files = files; slots = slots }

@@ -16,7 +16,7 @@ ghost use Rattle.policy.specs.State.{noLevels, freshState, Free, By, hel
 ghost use Rattle.shelf.specs.Shelf.{ZeroShelf};
 ghost use Rattle.shelf.specs.Fine.{ShelfFine};
 ghost use Rattle.policy.specs.WellFormed.{Examines};
-ghost use Rattle.policy.specs.Fine.{roleShelves, fileShelves, OneIs, SlotIs, SlotsAre, RoleHeld, TreeFine, TreeExamined};
+ghost use Rattle.policy.specs.Fine.{roleShelves, fileShelves, OneIs, SlotIs, SlotsAre, RoleHeld, TreeFine, TreeExamined, stateOfParts};
 
 // The most roles and the most files; the slots.
 pub const ROLES: usize = 32;
@@ -334,6 +334,48 @@ fn no_file() -> File
     }
 }
 
+// The examination of the state with these parts. By its parts, since the compiler passes an array of bytes on from where it stands, and a state it copies
+// first. Both walks stand here: in two functions the second array would be copied twice.
+pub fn examine_parts(
+    tree: Tree,
+    nroles: usize,
+    roles: [Role; ROLES],
+    nfiles: usize,
+    files: [File; FILES],
+    slots: [u16; SLOTS],
+    slot: usize,
+    file: usize,
+) -> Examined
+    ensures { λ r. ⌜ Examines (stateOfParts tree nroles roles nfiles files slots) slot file r ⌝ }
+{
+    let grown = examine_tree(tree);
+    let levels = grown.levels;
+    let mut rok = true;
+    for i in 0..ROLES {
+        rok = rok & role_is(roles[i], i < nroles, grown.n, levels.depth);
+    }
+    let mut fok = true;
+    for j in 0..FILES {
+        fok = fok & file_is(files[j], j < nfiles, grown.n, levels.depth);
+    }
+    let ok = grown.ok & counts_fit(nroles, nfiles) & rok & fok & slots_are(slots, nroles);
+    let mine = role_held(slots, slot);
+    let role = roles[mine];
+    let at = below(file, FILES);
+    let its = files[at];
+    Examined {
+        ok,
+        tree,
+        levels: levels_if(ok, levels),
+        nroles,
+        nfiles,
+        slots,
+        role,
+        at,
+        file: its,
+    }
+}
+
 impl File {
     // The file with x stored at place k, and y two places on: T1 with T2, or E with G.
     pub fn put_pair(self, k: usize, x: &[u8], y: &[u8]) -> File
@@ -370,43 +412,22 @@ impl State {
     }
 
     // Whether the state is well formed; with all that a request needs of it, the role that a slot holds and a file among it.
-    // Both walks stand here, since an array that is handed on is copied.
     pub fn examine(self, slot: usize, file: usize) -> Examined
         ensures { λ r. ⌜ Examines self slot file r ⌝ }
     {
         let tree = self.tree;
-        let grown = examine_tree(tree);
-        let levels = grown.levels;
-        let nroles = self.nroles;
-        let nfiles = self.nfiles;
-        let slots = self.slots;
         let roles = self.roles;
         let files = self.files;
-        let mut rok = true;
-        for i in 0..ROLES {
-            let r = roles[i];
-            rok = rok & role_is(r, i < nroles, grown.n, levels.depth);
-        }
-        let mut fok = true;
-        for j in 0..FILES {
-            let f = files[j];
-            fok = fok & file_is(f, j < nfiles, grown.n, levels.depth);
-        }
-        let ok = grown.ok & counts_fit(nroles, nfiles) & rok & fok & slots_are(slots, nroles);
-        let mine = role_held(slots, slot);
-        let role = roles[mine];
-        let at = below(file, FILES);
-        let its = files[at];
-        Examined {
-            ok,
+        let slots = self.slots;
+        examine_parts(
             tree,
-            levels: levels_if(ok, levels),
-            nroles,
-            nfiles,
+            self.nroles,
+            roles,
+            self.nfiles,
+            files,
             slots,
-            role,
-            at,
-            file: its,
-        }
+            slot,
+            file,
+        )
     }
 }

@@ -1,66 +1,16 @@
--- `gate::begin` meets its contract: a grant gives the slot its role, a refusal gives back what was seen. Assumes nothing.
-use mathlib.Core.Path.{refl}
-use Rattle.logic.specs.Iff.{not-then-false}
-use Rattle.policy.specs.State.{By}
-use Rattle.gate.specs.Granted.{BeginGranted}
-use Rattle.gate.specs.Laws.{begin-granted}
-use Rattle.gate.proofs.Stages.{at-within, after-kept, after-hold, tells-granted, tells-refused}
+-- `gate::begin` meets its contract: the state is one that was seen so. Assumes nothing.
 use borrow.Author.Needs.{needs}
 use Rattle.gate.proofs.begin.Statement.{statement}
 use Rattle.gate.proofs.begin.Tie as tie
 
--- what a grant tells
-known : (c : tie.Then1) → let a = c .before .before .before .before .args in BeginGranted (a .s) (a .slot) (a .role)
-known c =
-    let a = c .before .before .before .before .args in
-    let stage = c .before .before .begin-answer in
-    begin-granted (a .s) (a .slot) (stage .result) (a .role) (stage .ensures 0 (a .s) (c .before .before .before .examine .ensures))
-    (c .before .granted .ensures .0 (c .if1 .taken))
-
 examine-requires : tie.Need-examine-requires
 examine-requires c κs = search needs
 
-begin-answer-requires : tie.Need-begin-answer-requires
-begin-answer-requires c κs = search needs
-
-granted-requires : tie.Need-granted-requires
-granted-requires c κs = search needs
-
-held-by-requires : tie.Need-held-by-requires
-held-by-requires c κs = search needs
-
-slot-effect-requires : tie.Need-slot-effect-requires
-slot-effect-requires c κs = known (c .before) .known
+begin-seen-requires : tie.Need-begin-seen-requires
+begin-seen-requires c κs = (0, (_, c .examine .ensures))
 
 returns : tie.Need-returns
-returns c =
-    let a = c .before .before .before .before .before .before .args in
-    let x = c .before .before .before .before .before .examine .ensures in
-    let stage = c .before .before .before .before .begin-answer in
-    let granted = c .before .before .before .granted .ensures .0 (c .before .before .if1 .taken) in
-    rw (c .slot-effect .ensures, c .before .held-by .ensures)
-    (tells-granted (stage .ensures 0 (a .s) x) refl (at-within x) granted (after-hold x (stage .result) (By (a .role))))
-
-file-effect-requires : tie.Need-file-effect-requires
-file-effect-requires c κs = search needs
-
-returns-2 : tie.Need-returns-2
-returns-2 c =
-    let a = c .before .before .before .before .before .before .args in
-    let x = c .before .before .before .before .before .examine .ensures in
-    let stage = c .before .before .before .before .begin-answer in
-    let not-granted = not-then-false (c .before .before .before .granted .ensures) (c .before .before .if1 .left) in
-    rw (c .file-effect .ensures) (tells-refused (stage .ensures 0 (a .s) x) refl (at-within x) not-granted (after-kept x (stage .result)))
+returns c = c .begin-seen .ensures 0 _ (c .before .examine .ensures)
 
 pub begin-spec : {M : Type 1} → statement M
-begin-spec =
-    tie.close
-    (tie.spec
-    examine-requires
-    begin-answer-requires
-    granted-requires
-    held-by-requires
-    slot-effect-requires
-    returns
-    file-effect-requires
-    returns-2)
+begin-spec = tie.close (tie.spec examine-requires begin-seen-requires returns)

@@ -1,9 +1,4 @@
--- `gate::end` meets its contract: a grant frees the slot, a refusal gives back what was seen. Assumes nothing.
-use mathlib.Core.Path.{refl}
-use Rattle.logic.specs.Iff.{not-then-false}
-use Rattle.policy.specs.State.{Free}
-use Rattle.gate.specs.Laws.{end-granted}
-use Rattle.gate.proofs.Stages.{at-within, after-kept, after-hold, tells-granted, tells-refused}
+-- `gate::end` meets its contract: the state is one that was seen so. Assumes nothing.
 use borrow.Author.Needs.{needs}
 use Rattle.gate.proofs.end.Statement.{statement}
 use Rattle.gate.proofs.end.Tie as tie
@@ -11,46 +6,11 @@ use Rattle.gate.proofs.end.Tie as tie
 examine-requires : tie.Need-examine-requires
 examine-requires c κs = search needs
 
-session-answer-requires : tie.Need-session-answer-requires
-session-answer-requires c κs = search needs
-
-granted-requires : tie.Need-granted-requires
-granted-requires c κs = search needs
-
-slot-effect-requires : tie.Need-slot-effect-requires
-slot-effect-requires c κs =
-    let a = c .before .before .before .before .args in
-    let stage = c .before .before .session-answer in
-    let granted = c .before .granted .ensures .0 (c .if1 .taken) in
-    end-granted (a .s) (a .slot) (stage .result) (stage .ensures 0 (a .s) (c .before .before .before .examine .ensures)) granted .known
+end-seen-requires : tie.Need-end-seen-requires
+end-seen-requires c κs = (0, (_, c .examine .ensures))
 
 returns : tie.Need-returns
-returns c =
-    let a = c .before .before .before .before .before .args in
-    let x = c .before .before .before .before .examine .ensures in
-    let stage = c .before .before .before .session-answer in
-    let granted = c .before .before .granted .ensures .0 (c .before .if1 .taken) in
-    rw (c .slot-effect .ensures) (tells-granted (stage .ensures 0 (a .s) x) refl (at-within x) granted (after-hold x (stage .result) Free))
-
-file-effect-requires : tie.Need-file-effect-requires
-file-effect-requires c κs = search needs
-
-returns-2 : tie.Need-returns-2
-returns-2 c =
-    let a = c .before .before .before .before .before .before .args in
-    let x = c .before .before .before .before .before .examine .ensures in
-    let stage = c .before .before .before .before .session-answer in
-    let not-granted = not-then-false (c .before .before .before .granted .ensures) (c .before .before .if1 .left) in
-    rw (c .file-effect .ensures) (tells-refused (stage .ensures 0 (a .s) x) refl (at-within x) not-granted (after-kept x (stage .result)))
+returns c = c .end-seen .ensures 0 _ (c .before .examine .ensures)
 
 pub end-spec : {M : Type 1} → statement M
-end-spec =
-    tie.close
-    (tie.spec
-    examine-requires
-    session-answer-requires
-    granted-requires
-    slot-effect-requires
-    returns
-    file-effect-requires
-    returns-2)
+end-spec = tie.close (tie.spec examine-requires end-seen-requires returns)

@@ -1,33 +1,33 @@
--- `policy::State::examine` meets its contract: a flag says of every role passed that it is fine or zero, another of every file; with the tree, the counts
+-- `policy::examine_parts` meets its contract: a flag says of every role passed that it is fine or zero, another of every file; with the tree, the counts
 -- and the slots they make the test. The measures are what is left of each. Assumes nothing.
-use mathlib.Core.Path.{_≡_, refl, sym, ap, _∙_}
+use mathlib.Core.Path.{_≡_, refl, ap}
 use Prim.Native.Nat.{ℕ, _≤_, _-_}
 use native.Mathlib.Omega.{arith}
 use borrow.Author.Needs.{needs}
 use lib.Dec.{ltb}
-use lib.ListN.{length, getD, length-map}
+use lib.ListN.{length, getD}
 use Rattle.logic.specs.Every.{Flag, flag-none, flag-and}
 use Rattle.logic.specs.Iff.{not-holds}
 use Rattle.policy.specs.State.{mostRoles, mostFiles, offRole, offFile, roleAt}
-use Rattle.policy.specs.Fine.{OneIs, roleShelves, fileShelves}
+use Rattle.policy.specs.Fine.{OneIs, roleShelves, fileShelves, stateOfParts}
 use Rattle.policy.proofs.Walks.{walked}
 use Rattle.policy.proofs.Test.{tree-told, tested}
-use Rattle.policy.proofs.State.examine.Statement.{statement}
-use Rattle.policy.proofs.State.examine.Tie as tie
+use Rattle.policy.proofs.examine_parts.Statement.{statement}
+use Rattle.policy.proofs.examine_parts.Tie as tie
 
 abbrev Inv-loop : tie.InvT-loop
-Inv-loop slot file tree grown levels nroles nfiles slots roles files rok₀ i₀ rok i =
+Inv-loop tree nroles nfiles slots slot file roles files grown levels rok₀ i₀ rok i =
     (i ≤ mostRoles) × Flag (λ (k : ℕ). OneIs roleShelves (ltb k nroles) (grown .n) (levels .depth .0) (getD roles k offRole)) i rok
 
 abbrev μ-loop : tie.MeasureT-loop
-μ-loop slot file tree grown levels nroles nfiles slots roles files rok₀ i₀ rok i = mostRoles - i
+μ-loop tree nroles nfiles slots slot file roles files grown levels rok₀ i₀ rok i = mostRoles - i
 
 abbrev Inv-loop2 : tie.InvT-loop2
-Inv-loop2 slot file tree grown levels nroles nfiles slots roles files rok fok₀ j₀ fok j =
+Inv-loop2 tree nroles nfiles slots slot file roles files grown levels rok fok₀ j₀ fok j =
     (j ≤ mostFiles) × Flag (λ (k : ℕ). OneIs fileShelves (ltb k nfiles) (grown .n) (levels .depth .0) (getD files k offFile)) j fok
 
 abbrev μ-loop2 : tie.MeasureT-loop2
-μ-loop2 slot file tree grown levels nroles nfiles slots roles files rok fok₀ j₀ fok j = mostFiles - j
+μ-loop2 tree nroles nfiles slots slot file roles files grown levels rok fok₀ j₀ fok j = mostFiles - j
 
 examine-tree-requires : tie.Need-examine-tree-requires Inv-loop μ-loop Inv-loop2 μ-loop2
 examine-tree-requires c κs = search needs
@@ -35,14 +35,14 @@ examine-tree-requires c κs = search needs
 loop-holds : tie.Need-loop-holds Inv-loop μ-loop Inv-loop2 μ-loop2
 loop-holds c = (search needs, flag-none _)
 
-mul-r : tie.Need-mul-r Inv-loop μ-loop Inv-loop2 μ-loop2
-mul-r c = omega arith
+mul-role-is : tie.Need-mul-role-is Inv-loop μ-loop Inv-loop2 μ-loop2
+mul-role-is c = omega arith
 
-array-copy-out-r : tie.Need-array-copy-out-r Inv-loop μ-loop Inv-loop2 μ-loop2
-array-copy-out-r c = omega arith
+array-copy-out-role-is : tie.Need-array-copy-out-role-is Inv-loop μ-loop Inv-loop2 μ-loop2
+array-copy-out-role-is c = omega arith
 
 role-is-requires : tie.Need-role-is-requires Inv-loop μ-loop Inv-loop2 μ-loop2
-role-is-requires c κs = c .before .before .before .before .before .before .before .examine-tree .ensures .some
+role-is-requires c κs = c .before .before .before .before .examine-tree .ensures .some
 
 add-i : tie.Need-add-i Inv-loop μ-loop Inv-loop2 μ-loop2
 add-i c = omega arith
@@ -56,14 +56,14 @@ loop-again c = (omega arith, flag-and (c .before .before .before .loop .inv .1) 
 loop2-holds : tie.Need-loop2-holds Inv-loop μ-loop Inv-loop2 μ-loop2
 loop2-holds c = (search needs, flag-none _)
 
-mul-f : tie.Need-mul-f Inv-loop μ-loop Inv-loop2 μ-loop2
-mul-f c = omega arith
+mul-file-is : tie.Need-mul-file-is Inv-loop μ-loop Inv-loop2 μ-loop2
+mul-file-is c = omega arith
 
-array-copy-out-f : tie.Need-array-copy-out-f Inv-loop μ-loop Inv-loop2 μ-loop2
-array-copy-out-f c = omega arith
+array-copy-out-file-is : tie.Need-array-copy-out-file-is Inv-loop μ-loop Inv-loop2 μ-loop2
+array-copy-out-file-is c = omega arith
 
 file-is-requires : tie.Need-file-is-requires Inv-loop μ-loop Inv-loop2 μ-loop2
-file-is-requires c κs = c .before .before .before .before .before .before .before .before .before .examine-tree .ensures .some
+file-is-requires c κs = c .before .before .before .before .before .before .examine-tree .ensures .some
 
 add-j : tie.Need-add-j Inv-loop μ-loop Inv-loop2 μ-loop2
 add-j c = omega arith
@@ -104,12 +104,13 @@ levels-if-requires c κs = search needs
 returns : tie.Need-returns Inv-loop μ-loop Inv-loop2 μ-loop2
 returns c =
     let walk = c .before .before .before .before .before .before .before .before in
-    let start = walk .before .before .before .before .before .before .before .before .before .before in
-    let s = start .args .self in
-    let g = walk .before .before .before .before .before .before .before .before .examine-tree in
+    let g = walk .before .before .before .before .before .examine-tree in
+    let start = walk .before .before .before .before .before .before in
+    let a = start .args in
+    let s = stateOfParts (a .tree) (a .nroles) (a .t3) (a .nfiles) (a .t5) (a .slots) in
     let t = g .ensures in
-    let rs : length (s .roles) ≡ mostRoles = sym (length-map (s .roles) _) ∙ start .good .0 .1 .1 .1 .1 .0 .1 .0 .1 in
-    let fs : length (s .files) ≡ mostFiles = sym (length-map (s .files) _) ∙ start .good .0 .1 .1 .1 .1 .1 .1 .0 .1 .0 .1 in
+    let rs : length (s .roles) ≡ mostRoles = start .good .1 .1 .0 .1 .0 .1 in
+    let fs : length (s .files) ≡ mostFiles = start .good .1 .1 .1 .1 .0 .1 .0 .1 in
     let roles = walked roleShelves (s .roles) rs (walk .before .before .before .loop .inv .1) (omega arith) in
     let files = walked fileShelves (s .files) fs (walk .before .loop2 .inv .1) (omega arith) in
     let slots = c .before .before .before .before .before in
@@ -131,8 +132,8 @@ returns c =
       file-is = refl;
     }
 
-pub examine-spec : {M : Type 1} → statement M
-examine-spec =
+pub examine-parts-spec : {M : Type 1} → statement M
+examine-parts-spec =
     tie.close
     (tie.spec
     Inv-loop
@@ -141,15 +142,15 @@ examine-spec =
     μ-loop2
     examine-tree-requires
     loop-holds
-    mul-r
-    array-copy-out-r
+    mul-role-is
+    array-copy-out-role-is
     role-is-requires
     add-i
     loop-less
     loop-again
     loop2-holds
-    mul-f
-    array-copy-out-f
+    mul-file-is
+    array-copy-out-file-is
     file-is-requires
     add-j
     loop2-less
