@@ -81,6 +81,6 @@ textWrong = 18
 abbrev pub textLong : ℕ
 textLong = 19
 
--- output buffer under 48 bytes
+-- output buffer under 48 bytes; of a print, under 512
 abbrev pub bufferShort : ℕ
 bufferShort = 20
