@@ -9,39 +9,16 @@ use native.Mathlib.Decide.{decLt}
 use native.Mathlib.Numerals.{add-one}
 use native.Mathlib.Omega.{arith}
 use lib.ListN.{length, take, drop, getD, set, length-set, length-append, take-append-drop}
-use lib.Seq.{take-suc, take-suc-set, take-all, take-append-le, split-at, length-take-le, drop-set-lt, drop-drop}
+use lib.Seq.{take-suc, take-suc-set, take-all, take-append-le, split-at, length-take-le, drop-set-lt}
 use Rattle.io.specs.Digits.{glyph, Fewest}
 use Rattle.answer.specs.declared.Answer.{Answer}
+use Rattle.writing.specs.Writing.{WrittenAt}
+use Rattle.writing.specs.Laws.{drop-more, then-written}
 use Rattle.lines.specs.Lines.{hexes, Fills, Held, Unended, Collected}
 use Rattle.lines.specs.Laws.{unended-append}
-use Rattle.lines.specs.Writing.{WrittenAt, DecimalAt, Keeps}
-
--- lists that are the same from k on are the same from further on
-drop-more : (x y : List ℕ) (k j : ℕ) → k ≤ j → drop k x ≡ drop k y → drop j x ≡ drop j y
-drop-more x y k j h e =
-    let i : k + (j - k) ≡ j = omega arith in
-    subst (λ (z : ℕ). drop z x ≡ drop z y) i (sym (drop-drop (j - k) k x) ∙ ap (drop (j - k)) e ∙ drop-drop (j - k) k y)
+use Rattle.lines.specs.Writing.{DecimalAt, Keeps}
 
 -- ---- what is written
-pub none-written : (d : List ℕ) (at : ℕ) → WrittenAt d at [] d at
-none-written d at = record { next = omega arith; is = sym (append-nil (take at d)); rest = refl; long = refl }
-
-pub one-written : (d : List ℕ) (at x : ℕ) → at < length d → WrittenAt d at (x ∷ []) (set d at x) (at + 1)
-one-written d at x h = record {
-  next = refl;
-  is = ap (λ (n : ℕ). take n (set d at x)) (add-one at) ∙ take-suc-set d at x h;
-  rest = drop-set-lt (at + 1) d at x (omega arith);
-  long = length-set d at x;
-}
-
-pub then-written : {d m e : List ℕ} {at p r : ℕ} {v w : List ℕ} → WrittenAt d at v m p → WrittenAt m p w e r → WrittenAt d at (v ++ w) e r
-then-written {d} {m} {e} {at} {p} {r} {v} {w} f g = record {
-  next = omega (arith, f .next, g .next, length-append v w);
-  is = g .is ∙ ap (λ (z : List ℕ). z ++ w) (f .is) ∙ append-assoc (take at d) v w;
-  rest = g .rest ∙ drop-more m d p r (omega (arith, g .next)) (f .rest);
-  long = g .long ∙ f .long;
-}
-
 hexes-append : (u v : List ℕ) → hexes (u ++ v) ≡ hexes u ++ hexes v
 hexes-append [] v = refl
 hexes-append (x ∷ u) v = ap (λ (z : List ℕ). 32 ∷ glyph (x / 16) ∷ glyph (x % 16) ∷ z) (hexes-append u v)
@@ -154,9 +131,9 @@ three-written {d} {f = f} {at = at} {r = r} {a = a} {b = b} {b′ = b′} {c = c
     (subst (λ (k : ℕ). WrittenAt d at (a ∷ b ∷ k ∷ []) f r) g (then-written x (then-written y z)))
 
 -- ---- a whole line
-module _ (a : Answer) (b : List ℕ) (n f : ℕ) (l48 : length b ≡ 48) (is-f : f ≡ min n 48) {d m1 m2 m3 : List ℕ} {i j k : ℕ} (room : 186 ≤ length d)
+module _ (a : Answer) (b : List ℕ) (n f : ℕ) (is-f : f ≡ min n (length b)) {d m1 m2 m3 : List ℕ} {i j k : ℕ} (room : 42 + 3 * length b ≤ length d)
     (D1 : DecimalAt d 0 (a .number) m1 i) (P : WrittenAt m1 i (32 ∷ []) m2 j) (D2 : DecimalAt m2 j (a .place) m3 k) where
-  pub room-hexes : (f ≤ 48) × (k + 3 * f ≤ length m3)
+  room-hexes : (f ≤ length b) × (k + 3 * f ≤ length m3)
   room-hexes = (omega arith, omega (arith, D1 .written .next, D1 .written .long, D1 .short, P .next, P .long, D2 .written .next, D2 .written .long, D2 .short))
 
   module _ {m4 : List ℕ} {l : ℕ} (H : WrittenAt m3 k (hexes (take f b)) m4 l) where
@@ -178,9 +155,9 @@ module _ (a : Answer) (b : List ℕ) (n f : ℕ) (l48 : length b ≡ 48) (is-f :
         )
 
     same-bytes : take f b ≡ take n b
-    same-bytes = go (decLt n 48)
+    same-bytes = go (decLt n (length b))
       where
-        go : Dec (n < 48) → take f b ≡ take n b
+        go : Dec (n < length b) → take f b ≡ take n b
         go (yes h) = let e : f ≡ n = omega arith in ap (λ (z : ℕ). take z b) e
         go (no h) = take-all f b (omega arith) ∙ sym (take-all n b (omega arith))
 

@@ -2,15 +2,9 @@
 use mathlib.Core.Path.{_≡_}
 use mathlib.Core.List.{List, [], _∷_, _++_}
 use Prim.Native.Nat.{ℕ, _+_, _≤_}
-use lib.ListN.{length, take, drop}
+use lib.ListN.{length, drop}
+use Rattle.writing.specs.Writing.{WrittenAt}
 use Rattle.lines.specs.Lines.{Decimal, Held}
-
--- w was written at the place at, up to r
-pub record WrittenAt (before : List ℕ) (at : ℕ) (w after : List ℕ) (r : ℕ) : Type 0 where
-  pub next : r ≡ at + length w
-  pub is : take r after ≡ take at before ++ w
-  pub rest : drop r after ≡ drop r before
-  pub long : length after ≡ length before
 
 -- n was written in decimal
 pub record DecimalAt (before : List ℕ) (at n : ℕ) (after : List ℕ) (r : ℕ) : Type 0 where

@@ -5,10 +5,12 @@ ghost use Prim.Native.Nat.{_≤_, _<_, _+_, _*_, _/_, _%_, min};
 ghost use lib.ListN.{length, take};
 ghost use Rattle.io.specs.Digits.{glyph as Digits·glyph};
 ghost use Rattle.lines.specs.Lines.{hexes as Lines·hexes, Fills, Collected};
-ghost use Rattle.lines.specs.Writing.{WrittenAt, DecimalAt, Keeps};
+ghost use Rattle.writing.specs.Writing.{WrittenAt};
+ghost use Rattle.lines.specs.Writing.{DecimalAt, Keeps};
 use answer::Answer;
+use writing::put;
 
-// The most bytes of a line that is printed: 20 digits twice, a space, three for each of 48 bytes, and the line end.
+// The most bytes of a line with up to 48 bytes given: 20 digits twice, a space, three for each byte, and the line end.
 pub const PRINTED: usize = 186;
 
 // The most bytes of a line that are kept: one more than a text may have.
@@ -19,15 +21,6 @@ pub struct Part {
     pub n: usize,
     pub next: usize,
     pub ended: bool,
-}
-
-// x at the place `at`.
-fn put(out: &mut [u8], at: usize, x: u8) -> usize
-    requires { ⌜ at < length (now out) ⌝ }
-    ensures { λ r. ⌜ WrittenAt (now (out .entry)) at (x ∷ []) (now (out .exit)) r ⌝ }
-{
-    out[at] = x;
-    at + 1
 }
 
 // The first k of d at the place `at`.
@@ -73,9 +66,9 @@ fn hex(out: &mut [u8], at: usize, x: u8) -> usize
 }
 
 // The first n bytes of b in hex.
-fn hexes(out: &mut [u8], at: usize, b: [u8; 48], n: usize) -> usize
-    requires { ⌜ (n ≤ 48) × (at + 3 * n ≤ length (now out)) ⌝ }
-    ensures { λ r. ⌜ WrittenAt (now (out .entry)) at (Lines·hexes (take n b)) (now (out .exit)) r ⌝ }
+fn hexes(out: &mut [u8], at: usize, b: &[u8], n: usize) -> usize
+    requires { ⌜ (n ≤ length (now b)) × (at + 3 * n ≤ length (now out)) ⌝ }
+    ensures { λ r. ⌜ WrittenAt (now (out .entry)) at (Lines·hexes (take n (now (b .entry)))) (now (out .exit)) r ⌝ }
 {
     let mut p = at;
     let mut i = 0;
@@ -86,22 +79,22 @@ fn hexes(out: &mut [u8], at: usize, b: [u8; 48], n: usize) -> usize
     p
 }
 
-// n, but at most 48.
-fn fewer(n: usize) -> usize
-    ensures { λ r. ⌜ r ≡ min n 48 ⌝ }
+// n, but at most so many.
+fn fewer(n: usize, all: usize) -> usize
+    ensures { λ r. ⌜ r ≡ min n all ⌝ }
 {
-    if n < 48 { n } else { 48 }
+    if n < all { n } else { all }
 }
 
-// The line of an answer, with the first n bytes of b: all 48 where n is more.
-pub fn print(a: Answer, b: [u8; 48], n: usize, out: &mut [u8]) -> usize
-    requires { ⌜ 186 ≤ length (now out) ⌝ }
-    ensures { λ r. ⌜ Fills a (take n b) (now (out .entry)) (now (out .exit)) r ⌝ }
+// The line of an answer, with the first n bytes of those given: all of them where n is more.
+pub fn print(a: Answer, given: &[u8], n: usize, out: &mut [u8]) -> usize
+    requires { ⌜ 42 + 3 * length (now given) ≤ length (now out) ⌝ }
+    ensures { λ r. ⌜ Fills a (take n (now (given .entry))) (now (out .entry)) (now (out .exit)) r ⌝ }
 {
     let i = decimal(out, 0, a.number as u64);
     let j = put(out, i, b' ');
     let k = decimal(out, j, a.place as u64);
-    let l = hexes(out, k, b, fewer(n));
+    let l = hexes(out, k, given, fewer(n, given.len()));
     put(out, l, b'\n')
 }
 

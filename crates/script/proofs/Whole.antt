@@ -120,7 +120,7 @@ cut-window s window ends before after n enough room few q =
     ends-here (inr y) = absurd (omega arith)
 
 -- and too few bytes, or too little room
-pub front-waits : (s : State) (window : List ℕ) (ends : Bool) (before : List ℕ) → Waits longestFront ends (length window) (length before)
+pub front-waits : (s : State) (window : List ℕ) (ends : Bool) (before : List ℕ) → Waits longestFront lineRoom ends (length window) (length before)
     → WindowIs false s window ends before before (record { loaded = false; state = s; used = 0; n = 0; more = true })
 front-waits s window ends before w = record {
   printed = [];

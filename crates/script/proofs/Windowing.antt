@@ -26,7 +26,7 @@ module _ {s₀ : State} {window first : List ℕ} {s : State} {at : ℕ} {before
   held : Filled (g .printed) first before k
   held = g .put first [] (filled-none first)
 
-  pub paused : (ends : Bool) → Waits longestRecord ends (length window - at) (length before - k)
+  pub paused : (ends : Bool) → Waits longestRecord lineRoom ends (length window - at) (length before - k)
       → WindowIs true s₀ window ends first before (record { loaded = true; state = s; used = at; n = k; more = true })
   paused ends w = record {
     printed = g .printed;
@@ -36,7 +36,7 @@ module _ {s₀ : State} {window first : List ℕ} {s : State} {at : ℕ} {before
     within = g .within;
     goes = λ _ later. g .on later;
     stops = λ m. absurd (true≢false m);
-    waits = λ _ _. subst (λ (l : ℕ). Waits longestRecord ends (length window - at) (l - k)) (g .long) w;
+    waits = λ _ _. subst (λ (l : ℕ). Waits longestRecord lineRoom ends (length window - at) (l - k)) (g .long) w;
   }
 
   module _ (room : lineRoom ≤ length before - k) where

@@ -79,7 +79,7 @@ pub record ExtentIs (input : List ℕ) (r : Extent) : Type 0 where
   pub short : r .whole ≡ false → (r .end ≡ length input) × (length input < 2 + stated input)
 
 -- whether what comes next can be played, or has to wait
-pub record MayPlay (enough : ℕ) (ends : Bool) (left room : ℕ) (r : Bool) : Type 0 where
-  pub has-room : r ≡ true → lineRoom ≤ room
+pub record MayPlay (enough line : ℕ) (ends : Bool) (left room : ℕ) (r : Bool) : Type 0 where
+  pub has-room : r ≡ true → line ≤ room
   pub has-bytes : r ≡ true → (ends ≡ true) ⊎ (enough ≤ left)
-  pub has-to-wait : r ≡ false → Waits enough ends left room
+  pub has-to-wait : r ≡ false → Waits enough line ends left room

@@ -35,13 +35,13 @@ abbrev pub deciding : Bool → ℕ
 deciding false = longestFront
 deciding true = longestRecord
 
--- room for any line in an output
+-- room for any line of a replay in an output
 abbrev pub lineRoom : ℕ
 lineRoom = 186
 
--- it has to wait: fewer than enough bytes are left in the window and the input does not end with it, or the output has no room for a line
-abbrev pub Waits : ℕ → Bool → ℕ → ℕ → Type 0
-Waits enough ends left room = ((ends ≡ false) × (left < enough)) ⊎ (room < lineRoom)
+-- it has to wait: fewer than enough bytes are left in the window and the input does not end with it, or the output has less room than a line takes
+abbrev pub Waits : ℕ → ℕ → Bool → ℕ → ℕ → Type 0
+Waits enough line ends left room = ((ends ≡ false) × (left < enough)) ⊎ (room < line)
 
 -- ---- one window
 -- a replay before its first window
@@ -59,7 +59,7 @@ pub record WindowIs (loaded : Bool) (s : State) (window : List ℕ) (ends : Bool
   pub goes : r .more ≡ true → (later : List ℕ)
       → PlaysTo loaded s (window ++ later) (r .loaded) (r .state) (drop (r .used) window ++ later) printed
   pub stops : r .more ≡ false → (later : List ℕ) → (ends ≡ true → later ≡ []) → PlaysOut loaded s (window ++ later) printed
-  pub waits : r .more ≡ true → r .loaded ≡ loaded → Waits (deciding loaded) ends (length window - r .used) (length before - r .n)
+  pub waits : r .more ≡ true → r .loaded ≡ loaded → Waits (deciding loaded) lineRoom ends (length window - r .used) (length before - r .n)
 
 -- the bytes of a buffer from at to n, as far as they are there, went to its front; the rest keeps its content
 pub record Fronted (before : List ℕ) (at n : ℕ) (after : List ℕ) (r : ℕ) : Type 0 where

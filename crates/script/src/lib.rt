@@ -31,6 +31,9 @@ const LONGEST_RECORD: usize = 516;
 // The most bytes before the records: two that state a length, and an image of the largest.
 const LONGEST_FRONT: usize = 65537;
 
+// The room that a line takes.
+const LINE: usize = lines::PRINTED;
+
 // The bytes of a window that a program reads its input by: more than any that have to be there at once.
 pub const WINDOW: usize = 131072;
 
@@ -259,8 +262,8 @@ fn put_all(out: &mut [u8], n: usize, w: &[u8]) -> usize
 fn put_line(out: &mut [u8], n: usize, a: Answer) -> usize
     ensures { λ r. ⌜ PutsLine a (now (out .entry)) n (now (out .exit)) r ⌝ }
 {
-    let mut line = [0u8; lines::PRINTED];
-    let long = lines::print(a, [0u8; 48], 0, &mut line);
+    let mut line = [0u8; LINE];
+    let long = lines::print(a, b"", 0, &mut line);
     put_all(out, n, &line[..long])
 }
 
@@ -357,11 +360,11 @@ pub fn run(input: &[u8], out: &mut [u8]) -> usize
     play_all(state, input, end, out, n)
 }
 
-// Whether what comes next can be played: so many bytes are left, or all that there are, and the output has room for a line.
-pub fn may_play(enough: usize, ends: bool, left: usize, room: usize) -> bool
-    ensures { λ r. ⌜ MayPlay enough ends left room r ⌝ }
+// Whether what comes next can be played: so many bytes are left, or all that there are, and the output has the room that a line takes.
+pub fn may_play(enough: usize, line: usize, ends: bool, left: usize, room: usize) -> bool
+    ensures { λ r. ⌜ MayPlay enough line ends left room r ⌝ }
 {
-    if room < lines::PRINTED {
+    if room < line {
         return false;
     }
     if ends {
@@ -384,7 +387,7 @@ fn play_front(s: State, window: &[u8], ends: bool, out: &mut [u8]) -> Windowed
         n: 0,
         more: true,
     };
-    if !may_play(LONGEST_FRONT, ends, window.len(), out.len()) {
+    if !may_play(LONGEST_FRONT, LINE, ends, window.len(), out.len()) {
         return w;
     }
     if window.len() < 2 {
@@ -413,7 +416,7 @@ fn play_records(state: State, window: &[u8], ends: bool, out: &mut [u8]) -> Wind
     let mut s = state;
     let mut at = 0;
     let mut n = 0;
-    while may_play(LONGEST_RECORD, ends, window.len() - at, out.len() - n) {
+    while may_play(LONGEST_RECORD, LINE, ends, window.len() - at, out.len() - n) {
         let played = play(s, &window[at..]);
         let next = played.next;
         let gave = played.effect;

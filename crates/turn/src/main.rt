@@ -34,7 +34,7 @@ fn turned(line: &[u8], n: usize, out: &mut [u8]) -> usize
     let mut bytes = [0u8; 48];
     let a = text::turn(&line[..n], &mut bytes);
     let k = made(a);
-    lines::print(a, bytes, k, out)
+    lines::print(a, &bytes, k, out)
 }
 
 // The piece up to its next line end, whose line is printed, or all of it, which is kept.

@@ -1,11 +1,12 @@
 -- `copy` meets its contract: what was passed is written. The measure is what is left. Assumes nothing.
 use mathlib.Core.Path.{_≡_, subst}
-use Prim.Native.Nat.{ℕ, _≤_, _-_}
+use Prim.Native.Nat.{ℕ, _-_, _≤_}
 use lib.ListN.{length, take}
 use native.Mathlib.Omega.{arith}
 use borrow.Author.Needs.{needs}
-use Rattle.lines.specs.Writing.{WrittenAt}
-use Rattle.lines.proofs.Laws.{none-written, copy-more, copied-to}
+use Rattle.writing.specs.Writing.{WrittenAt}
+use Rattle.writing.specs.Laws.{none-written}
+use Rattle.lines.proofs.Laws.{copy-more, copied-to}
 use Rattle.lines.proofs.copy.Statement.{statement}
 use Rattle.lines.proofs.copy.Tie as tie
 

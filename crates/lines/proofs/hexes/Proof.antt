@@ -1,64 +1,63 @@
 -- `hexes` meets its contract: what was passed is written. The measure is what is left. Assumes nothing.
 use mathlib.Core.Path.{_≡_, subst}
-use Prim.Native.Nat.{ℕ, _≤_, _-_}
-use lib.ListN.{length, take}
+use Prim.Native.Nat.{ℕ, _-_, _≤_}
+use lib.ListN.{take}
+use denote.Ref.{now}
 use native.Mathlib.Omega.{arith}
 use borrow.Author.Needs.{needs}
 use Rattle.lines.specs.Lines.{hexes}
-use Rattle.lines.specs.Writing.{WrittenAt}
-use Rattle.lines.proofs.Laws.{none-written, hexes-more, hexed-to}
+use Rattle.writing.specs.Writing.{WrittenAt}
+use Rattle.writing.specs.Laws.{none-written}
+use Rattle.lines.proofs.Laws.{hexes-more, hexed-to}
 use Rattle.lines.proofs.hexes.Statement.{statement}
 use Rattle.lines.proofs.hexes.Tie as tie
 
 abbrev Inv-loop : tie.InvT-loop
-Inv-loop out₀ at n b p₀ i₀ out p i = (i ≤ n) × WrittenAt out₀ at (hexes (take i b)) out p
+Inv-loop out₀ at b n p₀ i₀ out p i = (i ≤ n) × WrittenAt out₀ at (hexes (take i b)) out p
 
 abbrev μ-loop : tie.MeasureT-loop
-μ-loop out₀ at n b p₀ i₀ out p i = n - i
+μ-loop out₀ at b n p₀ i₀ out p i = n - i
 
 loop-holds : tie.Need-loop-holds Inv-loop μ-loop
 loop-holds c = (omega arith, none-written _ _)
 
-array-read-hex : tie.Need-array-read-hex Inv-loop μ-loop
-array-read-hex c = omega (arith, c .before .loop-test .taken, c .before .before .before .before .pre .0)
+shared-slice-read-hex : tie.Need-shared-slice-read-hex Inv-loop μ-loop
+shared-slice-read-hex c = omega (arith, c .before .before .loop-test .taken, c .before .before .before .before .before .before .pre .0)
 
 hex-requires : tie.Need-hex-requires Inv-loop μ-loop
 hex-requires c κs =
-    let c₂ = c .before .before in
-    let c₄ = c₂ .before .before in
-    let g : length (c₄ .args .t3) ≡ 48 = search needs in
-    let q = c₄ .pre in
-    let v = c₂ .loop .inv in
-    let e = hexed-to (c₄ .args .t3) (c₂ .loop .i) (omega (arith, q .0, v .0)) (v .1) in
-    omega (arith, q .1, v .1 .long, c .before .loop-test .taken)
+    let c₃ = c .before .before .before in
+    let c₆ = c₃ .before .before .before in
+    let q = c₆ .pre in
+    let v = c₃ .loop .inv in
+    let e = hexed-to (now (c₆ .args .b)) (c₃ .loop .i) (omega (arith, q .0, v .0)) (v .1) in
+    omega (arith, q .1, v .1 .long, c .before .before .loop-test .taken)
 
 add-i : tie.Need-add-i Inv-loop μ-loop
-add-i c = omega (arith, c .before .before .before .before .before .before .before .pre .0)
+add-i c = search needs
 
 loop-less : tie.Need-loop-less Inv-loop μ-loop
-loop-less c = omega arith
+loop-less c = omega (arith, c .before .before .before .before .before .loop-test .taken)
 
 loop-again : tie.Need-loop-again Inv-loop μ-loop
 loop-again c =
-    let c₂ = c .before .before in
-    let c₄ = c₂ .before .before in
-    let c₅ = c₄ .before in
-    let c₇ = c₅ .before .before in
-    let g : length (c₇ .args .t3) ≡ 48 = search needs in
-    let t = c₄ .loop-test .taken in
-    let q = c₇ .pre in
-    (omega arith, hexes-more _ (c₇ .args .t3) _ (c₅ .loop .i) (omega (arith, q .0)) _ _ _ _ (c₅ .loop .inv .1) (c₂ .hex .ensures))
+    let c₅ = c .before .before .before .before .before in
+    let c₆ = c₅ .before in
+    let c₉ = c₆ .before .before .before in
+    let t = c₅ .loop-test .taken in
+    let q = c₉ .pre in
+    (omega arith, hexes-more _ (now (c₉ .args .b)) _ (c₆ .loop .i) (omega (arith, q .0)) _ _ _ _ (c₆ .loop .inv .1) (c .before .before .hex .ensures))
 
 same-length : tie.Need-same-length Inv-loop μ-loop
 same-length c = c .before .loop .inv .1 .long
 
 returns : tie.Need-returns Inv-loop μ-loop
 returns c =
-    let a = c .before .before .before .args in
+    let a = c .before .before .before .before .args in
     let l = c .before .loop in
     let v = l .inv in
     let e : l .i ≡ a .n = omega (arith, v .0, c .loop-test .left) in
-    subst (λ (z : ℕ). WrittenAt (a .out .now) (a .at) (hexes (take z (a .t3))) (l .out) (l .p)) e (v .1)
+    subst (λ (z : ℕ). WrittenAt (a .out .now) (a .at) (hexes (take z (now (a .b)))) (l .out) (l .p)) e (v .1)
 
 pub hexes-spec : {M : Type 1} → statement M
 hexes-spec =
@@ -67,7 +66,7 @@ hexes-spec =
     Inv-loop
     μ-loop
     loop-holds
-    array-read-hex
+    shared-slice-read-hex
     hex-requires
     add-i
     loop-less

@@ -10,6 +10,9 @@ use Rattle.script.proofs.put_line.Tie as tie
 slice-aggregate-print : tie.Need-slice-aggregate-print
 slice-aggregate-print c = search needs
 
+slice-aggregate-print-2 : tie.Need-slice-aggregate-print-2
+slice-aggregate-print-2 c = search needs
+
 print-requires : tie.Need-print-requires
 print-requires c κs = search needs
 
@@ -35,6 +38,7 @@ put-line-spec =
     tie.close
     (tie.spec
     slice-aggregate-print
+    slice-aggregate-print-2
     print-requires
     array-share-prefix-line
     slice-aggregate-put-all

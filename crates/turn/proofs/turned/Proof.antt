@@ -18,6 +18,9 @@ turn-requires c κs = search needs
 made-requires : tie.Need-made-requires
 made-requires c κs = search needs
 
+slice-aggregate-print : tie.Need-slice-aggregate-print
+slice-aggregate-print c = search needs
+
 print-requires : tie.Need-print-requires
 print-requires c κs = search needs
 
@@ -27,10 +30,10 @@ same-length c = search needs
 returns : tie.Need-returns
 returns c =
     let c₂ = c .before .before in
-    let c₄ = c₂ .before .before in
-    let c₆ = c₄ .before .before in
-    let c₁₁ = c₆ .before .before .before .before .before in
-    prints-it (c₁₁ .args .n) (c₁₁ .args .line .now) _ _ _ (c₆ .turn .ensures .0) (c₆ .turn .ensures .1) _ (c₄ .made .ensures) _ _ _
+    let c₅ = c₂ .before .before .before in
+    let c₇ = c₅ .before .before in
+    let c₁₂ = c₇ .before .before .before .before .before in
+    prints-it (c₁₂ .args .n) (c₁₂ .args .line .now) _ _ _ (c₇ .turn .ensures .0) (c₇ .turn .ensures .1) _ (c₅ .made .ensures) _ _ _
     (c₂ .print .ensures)
 
 pub turned-spec : {M : Type 1} → statement M
@@ -41,6 +44,7 @@ turned-spec =
     slice-aggregate-turn-2
     turn-requires
     made-requires
+    slice-aggregate-print
     print-requires
     same-length
     returns)
