@@ -13,6 +13,8 @@ use Rattle.answer.specs.Answers.{Decides, Granted, Leaves}
 use Rattle.policy.specs.declared.State.{State}
 use Rattle.text.specs.Turn.{textConditions, textGrants, textMakes}
 use Rattle.text.specs.Laws.{one-text-answer, one-text-output}
+use Rattle.print.specs.Print.{printConditions, printGrants, printMakes}
+use Rattle.print.specs.Laws.{one-print-answer, one-print-output}
 use Rattle.machine.specs.Machine.{Request, load, begin, end, ask, change, bypass, Step, GateEvent, GateRun}
 use Rattle.machine.specs.Laws.{Same, one-step}
 use Rattle.machine.specs.RunLaws.{cut-at, run-joined}
@@ -36,6 +38,16 @@ pub one-output-of-a-text : (text : List ℕ) (a : Answer) (before x y : List ℕ
     → Leaves a (textMakes text before) before y → x ≡ y
 one-output-of-a-text = one-text-output
 
+-- a print
+pub one-answer-to-a-print : (s : State) (expression : List ℕ) (room : ℕ) (a b : Answer)
+    → Decides (printConditions s expression room) (printGrants expression) a
+    → Decides (printConditions s expression room) (printGrants expression) b → a ≡ b
+one-answer-to-a-print = one-print-answer
+
+pub one-output-of-a-print : (expression : List ℕ) (a : Answer) (before x y : List ℕ) → Leaves a (printMakes expression before) before x
+    → Leaves a (printMakes expression before) before y → x ≡ y
+one-output-of-a-print = one-print-output
+
 -- a whole replay
 pub one-output-of-a-replay : {input before x y : List ℕ} {r s : ℕ} → Replays input before x r → Replays input before y s → (x ≡ y) × (r ≡ s)
 one-output-of-a-replay = one-replay
@@ -56,6 +68,11 @@ a-refused-call-leaves-the-state s (bypass slot file mode e g) a t st = st .leave
 pub a-refused-text-leaves-the-output : (text : List ℕ) (a : Answer) (before after : List ℕ) → Leaves a (textMakes text before) before after
     → (Granted a → ⊥) → after ≡ before
 a-refused-text-leaves-the-output text a before after l = l .on-refusal
+
+-- a print: the output
+pub a-refused-print-leaves-the-output : (expression : List ℕ) (a : Answer) (before after : List ℕ) → Leaves a (printMakes expression before) before after
+    → (Granted a → ⊥) → after ≡ before
+a-refused-print-leaves-the-output expression a before after l = l .on-refusal
 
 -- among other calls: a refused one might as well not have been made, for whatever comes after it
 pub a-refused-call-could-be-left-out : {s t : State} (xs : List GateEvent) (e : GateEvent) (ys : List GateEvent) → GateRun s (xs ++ (e ∷ ys)) t

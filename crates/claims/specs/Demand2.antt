@@ -3,7 +3,7 @@
 -- nobody could write that set out." Below, each sentence is followed by its theorems. Assumes nothing.
 use mathlib.Core.Path.{_≡_, refl}
 use mathlib.Core.Bool.{true}
-use mathlib.Core.List.{List}
+use mathlib.Core.List.{List, [], _∷_}
 use mathlib.Core.Logic.{_↔_, inl, inr}
 use Prim.Native.Nat.{ℕ, zero, suc, _<_}
 use native.Mathlib.Omega.{arith}
@@ -21,7 +21,9 @@ use Rattle.image.specs.Image.{Policy, image}
 use Rattle.image.specs.Load.{stateOf, Loads}
 use Rattle.image.specs.Laws as load-laws
 use Rattle.text.specs.Turn.{textConditions, textGrants, textMakes}
-use Rattle.text.specs.Laws.{text-places, granted-right}
+use Rattle.text.specs.Laws.{text-places}
+use Rattle.print.specs.Print.{printConditions, printGrants, printMakes}
+use Rattle.print.specs.Laws.{print-places}
 use Rattle.rules.specs.Rules.{Passes, Mediates}
 use Rattle.gate.specs.Requests.{beginConditions, endConditions, askConditions, changeConditions, bypassConditions}
 use Rattle.gate.specs.Requests.{Outcome, Does, Begins, Ends, Asks, Changes, Bypasses}
@@ -74,22 +76,44 @@ load-exactly bytes before r l = record {
   after-a-refusal = λ n k f. load-laws.refused-state bytes before r l n k f .1;
 }
 
--- text: 20, 18, 19; granted, the place is the count of its bytes, and they fill the front of the output; refused, the output is the old one
-pub record TurnsExactly (text before after : List ℕ) (a : Answer) : Type 0 where
-  pub answer : Exactly (textConditions text (length before)) a
-  pub after-a-grant : AllHold (textConditions text (length before)) → textGrants text (a .place) × textMakes text before after
-  pub after-a-refusal : (AllHold (textConditions text (length before)) → ⊥) → after ≡ before
+-- a call that fills an output: granted, the place is as the grant names it, and the output is what it makes; refused, the output is the old one
+pub record FillsExactly (cs : List Condition) (grants : ℕ → Type 0) (makes : List ℕ → Type 0) (before after : List ℕ) (a : Answer) : Type 0 where
+  pub answer : Exactly cs a
+  pub after-a-grant : AllHold cs → grants (a .place) × makes after
+  pub after-a-refusal : (AllHold cs → ⊥) → after ≡ before
+
+fills-exactly : (cs : List Condition) (grants : ℕ → Type 0) (makes : List ℕ → Type 0) (before after : List ℕ) (a : Answer) → refuses cs ≡ true
+    → OnePlaceEach cs → Decides cs grants a → Leaves a makes before after → FillsExactly cs grants makes before after a
+fills-exactly cs grants makes before after a f one d l =
+    let x = exactly cs grants a f one d in
+    record {
+      answer = x;
+      after-a-grant = λ h. (named cs h d, l .on-grant (x .granted .1 h));
+      after-a-refusal = λ n. l .on-refusal (λ g. n (x .granted .0 g));
+    }
+  where
+    named : (cs : List Condition) → AllHold cs → Decides cs grants a → grants (a .place)
+    named [] h w = w .1
+    named (c ∷ cs) h (inl w) = absurd (w .0 (h .0))
+    named (c ∷ cs) h (inr w) = named cs (h .1) (w .1)
+
+-- text: 20, 18, 19; the place is the count of its bytes, and they fill the front of the output
+abbrev pub TurnsExactly : List ℕ → List ℕ → List ℕ → Answer → Type 0
+TurnsExactly text before = FillsExactly (textConditions text (length before)) (textGrants text) (textMakes text before) before
 
 pub text-exactly : (text before after : List ℕ) (a : Answer) → Decides (textConditions text (length before)) (textGrants text) a
     → Leaves a (textMakes text before) before after → TurnsExactly text before after a
-text-exactly text before after a d l =
-    let cs = textConditions text (length before) in
-    let x = exactly cs (textGrants text) a refl (text-places text (length before)) d in
-    record {
-      answer = x;
-      after-a-grant = λ h. let g = x .granted .1 h in (granted-right text (length before) a d g .1, l .on-grant g);
-      after-a-refusal = λ n. l .on-refusal (λ g. n (x .granted .0 g));
-    }
+text-exactly text before after a =
+    fills-exactly (textConditions text (length before)) (textGrants text) (textMakes text before) before after a refl (text-places text (length before))
+
+-- print: 17, 6, 20; the place is the length of the text, and it fills the front of the output
+abbrev pub PrintsExactly : State → List ℕ → List ℕ → List ℕ → Answer → Type 0
+PrintsExactly s x before = FillsExactly (printConditions s x (length before)) (printGrants x) (printMakes x before) before
+
+pub print-exactly : (s : State) (x before after : List ℕ) (a : Answer) → Decides (printConditions s x (length before)) (printGrants x) a
+    → Leaves a (printMakes x before) before after → PrintsExactly s x before after a
+print-exactly s x before after a =
+    fills-exactly (printConditions s x (length before)) (printGrants x) (printMakes x before) before after a refl (print-places s x (length before))
 
 module _ (s : State) (slot : ℕ) where
   -- begin: 17, 8, 10, 11; the slot holds the role asked for

@@ -1,17 +1,22 @@
 // The box that callers keep, and what a record does to it: the work by value, for whoever keeps the box.
 use answer::Answer;
 use gate::Effect;
+use policy::Examined;
 use policy::File;
+use policy::Role;
 use policy::State;
 use records::Span;
+use tree::Tree;
 ghost use mathlib.Core.Path.{_≡_};
 ghost use Prim.Native.Nat.{_<_, _≤_};
 ghost use lib.ListN.{length, getD};
-ghost use Rattle.gate.specs.Effects.{Tells};
-ghost use Rattle.machine.specs.Machine.{Step};
+ghost use Rattle.answer.specs.Answers.{Granted};
+ghost use Rattle.policy.specs.Fine.{stateOfParts};
+ghost use Rattle.print.specs.Writing.{SeenOnce};
+ghost use Rattle.gate.specs.Parts.{Seen};
 ghost use Rattle.records.specs.Walk.{spanned};
 ghost use Rattle.door.specs.Box.{packed, freshBox, Refills};
-ghost use Rattle.door.specs.Inner.{Inside, requestAt, Unaltered, RecordIs, LoadIs};
+ghost use Rattle.door.specs.Inner.{Inside, byteIn, boxOfParts, SeenIn, EffectIs, AllUnaltered, SeenUnaltered, PrintsSeen, RecordIs, LoadIs};
 
 // The box. It holds numbers alone, so that any memory of its size is a box.
 #[repr(C)]
@@ -19,8 +24,10 @@ pub struct BoxRecord {
     pub state: State,
 }
 
-// The code of a load.
+// The codes of a load and of a print.
 const LOAD: u8 = 6;
+
+const PRINT: u8 = 0x10;
 
 // What bytes that are no record are answered: a number that 01's table does not have, at place 0.
 const NO_RECORD: u64 = 255;
@@ -31,14 +38,15 @@ pub struct BoxLoaded {
     pub after: BoxRecord,
 }
 
-// What a record comes to. Of a load, that it is one, and no more. Of any other, the answer as one number, and all of the box that it may alter, as it
-// is after the call: the slots, and a file with its number.
+// What a record comes to. Of a load, that it is one, and no more. Of any other, the answer as one number; all of the box that it may alter, as it
+// is after the call: the slots, and a file with its number; and how many bytes it gave out.
 pub struct BoxServed {
     pub loads: bool,
     pub answer: u64,
     pub slots: [u16; policy::SLOTS],
     pub at: usize,
     pub file: File,
+    pub given: usize,
 }
 
 // The box with the fresh state.
@@ -80,10 +88,30 @@ fn first_of(rec: &[u8], field: Span) -> u8
     if from < field.to { rec[from] } else { 0 }
 }
 
-// The request of a record other than a load, by its code, from its fields: three bytes and two expressions. What a request does not take has no say.
-fn effect_in(s: State, rec: &[u8], code: u8, fields: [Span; records::MOST_FIELDS]) -> Effect
-    requires { ⌜ (0 < code) × Inside (now rec) fields ⌝ }
-    ensures { λ r. ⌜ Tells s (λ o. Step s (requestAt code (now (rec .entry)) fields) (o .answer) (o .state)) r ⌝ }
+// What a call has to know of the box with these parts: the examination, for the slot and the file that the first two fields name.
+fn seen_in(
+    tree: Tree,
+    nroles: usize,
+    roles: [Role; policy::ROLES],
+    nfiles: usize,
+    files: [File; policy::FILES],
+    slots: [u16; policy::SLOTS],
+    rec: &[u8],
+    fields: [Span; records::MOST_FIELDS],
+) -> Examined
+    requires { ⌜ Inside (now rec) fields ⌝ }
+    ensures { λ r. ⌜ SeenIn (stateOfParts tree nroles roles nfiles files slots) (now (rec .entry)) fields r ⌝ }
+{
+    let slot = first_of(rec, fields[0]) as usize;
+    let file = first_of(rec, fields[1]) as usize;
+    policy::examine_parts(tree, nroles, roles, nfiles, files, slots, slot, file)
+}
+
+// The request of a record other than a load and a print, by its code, from its fields: three bytes and two expressions. What a request does not take has
+// no say.
+fn effect_in(seen: Examined, rec: &[u8], code: u8, fields: [Span; records::MOST_FIELDS]) -> Effect
+    requires { ⌜ (0 < code) × Inside (now rec) fields × Seen (byteIn (now rec) fields 0) (byteIn (now rec) fields 1) seen ⌝ }
+    ensures { λ r. ⌜ EffectIs seen (now (rec .entry)) code fields r ⌝ }
 {
     let slot = first_of(rec, fields[0]);
     let a = first_of(rec, fields[1]);
@@ -94,15 +122,21 @@ fn effect_in(s: State, rec: &[u8], code: u8, fields: [Span; records::MOST_FIELDS
     let x_to = x.to;
     let y_from = y.from;
     let y_to = y.to;
-    machine::effect_of(s, code, slot, a, b, &rec[x_from..x_to], &rec[y_from..y_to])
+    machine::effect_seen(
+        seen,
+        code,
+        slot,
+        a,
+        b,
+        &rec[x_from..x_to],
+        &rec[y_from..y_to],
+    )
 }
 
-// Nothing is altered, and this is told.
-fn unaltered(b: BoxRecord, loads: bool) -> BoxServed
-    ensures { λ r. ⌜ Unaltered b loads r ⌝ }
+// Nothing is altered, and there is no answer.
+fn unaltered(files: [File; policy::FILES], slots: [u16; policy::SLOTS], loads: bool) -> BoxServed
+    ensures { λ r. ⌜ AllUnaltered files slots loads r ⌝ }
 {
-    let slots = b.state.slots;
-    let files = b.state.files;
     let file = files[0];
     BoxServed {
         loads,
@@ -110,34 +144,97 @@ fn unaltered(b: BoxRecord, loads: bool) -> BoxServed
         slots,
         at: 0,
         file,
+        given: 0,
     }
 }
 
-// One whole record and nothing after it, on the box. No record of today gives bytes out.
-pub fn serve_record(b: BoxRecord, rec: &[u8], out: &mut [u8]) -> BoxServed
-    ensures { λ r. ⌜ RecordIs b (now (rec .entry)) (now (out .entry)) r (now (out .exit)) ⌝ }
+// Nothing of what was seen is altered, this is told, and so many bytes were given out.
+fn told(seen: Examined, answer: u64, given: usize) -> BoxServed
+    ensures { λ r. ⌜ SeenUnaltered seen answer given r ⌝ }
+{
+    let slots = seen.slots;
+    let file = seen.file;
+    BoxServed {
+        loads: false,
+        answer,
+        slots,
+        at: seen.at,
+        file,
+        given,
+    }
+}
+
+// How many bytes a print with this answer gave out: a grant as many as its place says, a refusal none.
+fn printed_by(a: Answer) -> usize
+    ensures { λ r. ⌜ (Granted a → r ≡ a .place) × ((Granted a → ⊥) → r ≡ 0) ⌝ }
+{
+    if a.granted() {
+        return a.place;
+    }
+    0
+}
+
+// The print of a field.
+fn print_record(seen: Examined, rec: &[u8], field: Span, out: &mut [u8]) -> BoxServed
+    requires { ⌜ (field .from ≤ field .to) × (field .to ≤ length (now rec)) × SeenOnce seen ⌝ }
+    ensures { λ r. ⌜ PrintsSeen seen (spanned (now (rec .entry)) field) (now (out .entry)) r (now (out .exit)) ⌝ }
+{
+    let from = field.from;
+    let to = field.to;
+    let answer = print::print_seen(seen, &rec[from..to], out);
+    told(seen, pack(answer), printed_by(answer))
+}
+
+// One whole record and nothing after it, on the box with these parts. A request gives no bytes out, and a print alters nothing.
+pub fn serve_parts(
+    tree: Tree,
+    nroles: usize,
+    roles: [Role; policy::ROLES],
+    nfiles: usize,
+    files: [File; policy::FILES],
+    slots: [u16; policy::SLOTS],
+    rec: &[u8],
+    out: &mut [u8],
+) -> BoxServed
+    ensures { λ r. ⌜ RecordIs (boxOfParts tree nroles roles nfiles files slots) (now (rec .entry)) (now (out .entry)) r (now (out .exit)) ⌝ }
 {
     let parted = records::read_alone(rec);
     if !parted.whole {
-        return unaltered(b, false);
+        return unaltered(files, slots, false);
     }
     let code = parted.code;
     if code == LOAD {
-        return unaltered(b, true);
+        return unaltered(files, slots, true);
     }
     let fields = parted.fields;
-    let s = b.state;
-    let effect = effect_in(s, rec, code, fields);
+    let seen = seen_in(tree, nroles, roles, nfiles, files, slots, rec, fields);
+    if code == PRINT {
+        return print_record(seen, rec, fields[0], out);
+    }
+    let effect = effect_in(seen, rec, code, fields);
     let answer = effect.answer;
-    let slots = effect.slots;
+    let held = effect.slots;
     let file = effect.file;
     BoxServed {
         loads: false,
         answer: pack(answer),
-        slots,
+        slots: held,
         at: effect.at,
         file,
+        given: 0,
     }
+}
+
+// The same, on the box as one value.
+pub fn serve_record(b: BoxRecord, rec: &[u8], out: &mut [u8]) -> BoxServed
+    ensures { λ r. ⌜ RecordIs b (now (rec .entry)) (now (out .entry)) r (now (out .exit)) ⌝ }
+{
+    let s = b.state;
+    let tree = s.tree;
+    let roles = s.roles;
+    let files = s.files;
+    let slots = s.slots;
+    serve_parts(tree, s.nroles, roles, s.nfiles, files, slots, rec, out)
 }
 
 // The record of a load, on the box. Any other bytes are no record here.

@@ -9,7 +9,7 @@ use Rattle.machine.specs.Machine.{Request, load, begin, end, ask, change, bypas
 use Rattle.script.specs.Script.{IsRecord, a-begin, an-end, an-ask, a-change, a-bypass}
 use Rattle.records.specs.Records.{Shape, Byte, Short, Listed, code-01, code-02, code-03, code-04, code-05, Field, Fields, none, next, Recorded}
 use Rattle.records.specs.Laws.{one-line}
-use Rattle.door.specs.Box.{IsBoxRecord, begins, ends, asks, changes, bypasses, loads}
+use Rattle.door.specs.Box.{requests, IsBoxRecord, begins, ends, asks, changes, bypasses, loads}
 
 -- a byte and an expression, as fields
 a-byte : (x : ℕ) (rest : List ℕ) → Field Byte (x ∷ rest) (x ∷ []) rest
@@ -26,7 +26,7 @@ module _ (slot file mode : ℕ) (x y rest : List ℕ) where
   five-fields = next (a-byte slot _) (next (a-byte file _) (next (a-byte mode _) (next (an-expression x _) (next (an-expression y rest) none))))
 
 -- every record of a replay input is one of a box
-pub replayed-boxed : {bs rest : List ℕ} {q : Request} → IsRecord bs q rest → IsBoxRecord bs q rest
+pub replayed-boxed : {bs rest : List ℕ} {q : Request} → IsRecord bs q rest → IsBoxRecord bs (requests q) rest
 replayed-boxed (a-begin {slot} {role} {rest}) =
     begins (record {
       shapes = Byte ∷ Byte ∷ [];
@@ -106,8 +106,8 @@ body-front : {l x y rest : List ℕ} {slot file mode : ℕ}
 body-front {slot = slot} {file} {mode} v =
     let (m, e, u) = three-more v in e ∙ ap (λ (k : List ℕ). slot ∷ file ∷ mode ∷ k) (two-expressions u)
 
--- every record of a box but a load is one of a replay input
-pub boxed-replayed : {bs rest : List ℕ} {q : Request} → IsBoxRecord bs q rest → ((image : List ℕ) → q ≡ load image → ⊥) → IsRecord bs q rest
+-- every record of a box that is a request but a load is one of a replay input
+pub boxed-replayed : {bs rest : List ℕ} {q : Request} → IsBoxRecord bs (requests q) rest → ((image : List ℕ) → q ≡ load image → ⊥) → IsRecord bs q rest
 boxed-replayed {rest = rest} (begins {slot} {role} w) n =
     subst (λ (l : List ℕ). IsRecord l (begin slot role) rest) (sym (w .is ∙ ap (λ (k : List ℕ). 1 ∷ k) (two-bytes (lined code-01 w)))) a-begin
 boxed-replayed {rest = rest} (ends {slot} w) n =

@@ -9,48 +9,65 @@ use lib.ListN.{length, take, drop, length-append, length-drop, drop-of-length-le
 use lib.Seq.{length-take-le, take-all, take-at, drop-at, drop-drop, getD-drop}
 use Rattle.answer.specs.declared.Answer.{Answer}
 use Rattle.policy.specs.declared.State.{State}
-use Rattle.machine.specs.Machine.{Request, load}
+use Rattle.machine.specs.Machine.{load}
 use Rattle.lines.specs.Lines.{Line, Fills}
 use Rattle.records.specs.Records.{longestInTable, Unrecorded}
 use Rattle.records.specs.Laws.{AllBytes}
-use Rattle.script.specs.Windows.{lineRoom, Waits}
+use Rattle.script.specs.Windows.{Waits}
 use Rattle.door.specs.declared.BoxRecord.{BoxRecord}
 use Rattle.door.specs.declared.BoxServed.{BoxServed}
 use Rattle.door.specs.declared.BoxLoaded.{BoxLoaded}
-use Rattle.door.specs.Box.{IsBoxRecord, Makes, Serves}
-use Rattle.door.specs.Inner.{boxAfter, RecordIs, LoadIs}
-use Rattle.door.specs.Laws.{step-small}
-use Rattle.parkbox.specs.Parking.{NoBoxRecord, BoxPrints, input-over, record-broken}
-use Rattle.parkbox.specs.Windows.{PrintsTo, still-there, ParkedIs}
+use Rattle.door.specs.Box.{packed, Call, requests, IsBoxRecord, Does, Serves}
+use Rattle.door.specs.Inner.{boxAfter, givenIn, RecordIs, LoadIs}
+use Rattle.door.specs.Laws.{does-small}
+use Rattle.parkbox.specs.Parking.{lentRoom, NoBoxRecord, BoxPrints, input-over, record-broken}
+use Rattle.parkbox.specs.Windows.{PrintsTo, still-there, lineLent, ParkedIs}
 use Rattle.parkbox.specs.Inner.{SizeIs, unpacked, lastLine, LastTold}
 use Rattle.parkbox.specs.Laws.{unrecorded}
 use Rattle.parkbox.specs.WindowLaws.{box-record-onward, unrecorded-onward, one-record-on, prints-further, prints-out}
 
 -- ---- one record
--- a request was made of the box by the record
-pub record RecordMade (b : BoxRecord) (rec : List ℕ) (r : ℕ) (then : BoxRecord) : Type 0 where
-  pub request : Request
-  pub is : IsBoxRecord rec request []
-  pub makes : Makes b request r then
+-- a call was made of the box by the record, with the room that is lent: r is its answer as one number, and these bytes are given out
+pub record RecordMade (b : BoxRecord) (rec : List ℕ) (r : ℕ) (then : BoxRecord) (given : List ℕ) : Type 0 where
+  pub call : Call
+  pub is : IsBoxRecord rec call []
+  pub answer : Answer
+  pub does : Does (b .state) call lentRoom answer (then .state) given
+  pub packs : r ≡ packed answer
 
 pub made-by-load : {b : BoxRecord} {rec out out′ : List ℕ} {r : BoxServed} {l : BoxLoaded} → RecordIs b rec out r out′ → r .loads ≡ true → LoadIs b rec l
-    → RecordMade b rec (l .answer) (l .after)
+    → RecordMade b rec (l .answer) (l .after) []
 made-by-load w e v =
     let i = w .load-left e .0 in
-    record { request = load (i .0); is = i .1; makes = v .load-made (i .0) (i .1) }
+    let m = v .load-made (i .0) (i .1) in
+    record { call = requests (load (i .0)); is = i .1; answer = m .answer; does = (m .steps, refl); packs = m .packs }
 
-pub made-by-request : {b : BoxRecord} {rec out out′ : List ℕ} {r : BoxServed} {q : Request} → IsBoxRecord rec q [] → RecordIs b rec out r out′
-    → r .loads ≡ false → RecordMade b rec (r .answer) (boxAfter b r)
-made-by-request {b} {rec} {out} {out′} {r} {q} i w e = go (w .served e)
+-- what stands at the front of the room is what was given out, whatever the room held
+pub made-by-call : {b : BoxRecord} {rec out out′ : List ℕ} {r : BoxServed} {c : Call} → length out ≡ lentRoom → IsBoxRecord rec c []
+    → RecordIs b rec out r out′ → r .loads ≡ false → RecordMade b rec (r .answer) (boxAfter b r) (take (r .given) out′)
+made-by-call {b} {rec} {out} {out′} {r} {c} lent i w e = go (w .served e) (w .counted e)
   where
-    go : Serves b rec out (r .answer) (boxAfter b r) out′ → RecordMade b rec (r .answer) (boxAfter b r)
-    go (inl v) = record { request = v .request; is = v .is; makes = v .makes }
-    go (inr v) = absurd (v .none q i)
+    go : (v : Serves b rec out (r .answer) (boxAfter b r) out′) → r .given ≡ givenIn v
+        → RecordMade b rec (r .answer) (boxAfter b r) (take (r .given) out′)
+    go (inr v) k = absurd (v .none c i)
+    go (inl v) k =
+        let m = v .makes in
+        let front : take (r .given) out′ ≡ m .given =
+        ap (take (r .given)) (m .fills) ∙ take-at (m .given) (drop (length (m .given)) out) (r .given) (sym k) in
+        record {
+          call = v .call;
+          is = v .is;
+          answer = m .answer;
+          does =
+              subst (λ (g : List ℕ). Does (b .state) (v .call) lentRoom (m .answer) (boxAfter b r .state) g) (sym front)
+              (subst (λ (n : ℕ). Does (b .state) (v .call) n (m .answer) (boxAfter b r .state) (m .given)) lent (m .does));
+          packs = m .packs;
+        }
 
 -- the answer can be read off its number
-pub answer-is : {b then : BoxRecord} {q : Request} {r : ℕ} (m : Makes b q r then) → unpacked r ≡ m .answer
-answer-is {b} {then} {q} {r} m =
-    let small = step-small (b .state) (then .state) q (m .answer) (m .steps) in
+pub answer-is : {b then : BoxRecord} {rec given : List ℕ} {r : ℕ} (m : RecordMade b rec r then given) → unpacked r ≡ m .answer
+answer-is {b} {then} {rec} {given} {r} m =
+    let small = does-small (b .state) (then .state) (m .call) lentRoom (m .answer) given (m .does) in
     let packs = m .packs in
     let number : r % 256 ≡ m .answer .number = omega (arith, small .0) in
     let place : r / 256 ≡ m .answer .place = omega (arith, small .0) in
@@ -106,7 +123,7 @@ module _ {b : BoxRecord} {window first : List ℕ} {state : State} {used : ℕ} 
 
   -- the record that stands next
   pub record-here : {size end : ℕ} → end ≡ used + size → (size ≡ 0 → ⊥) → SizeIs left size
-      → (q : Request) × IsBoxRecord (take (end - used) (drop used window)) q []
+      → (c : Call) × IsBoxRecord (take (end - used) (drop used window)) c []
   record-here {size} {end} ends-at some s =
       let v = s .stands (omega arith) in
       let count : size ≡ end - used = omega arith in
@@ -141,10 +158,10 @@ module _ {b : BoxRecord} {window first : List ℕ} {state : State} {used : ℕ} 
       )
 
   -- one record more
-  module _ {w : List ℕ} {size end k r : ℕ} {then : BoxRecord} (ends-at : end ≡ used + size) (inside : SizeIs left size)
-      (made : RecordMade (boxOf state) (take (end - used) (drop used window)) r then) (line : Fills (unpacked r) [] room w k)
+  module _ {w given : List ℕ} {size end k r : ℕ} {then : BoxRecord} (ends-at : end ≡ used + size) (inside : SizeIs left size)
+      (made : RecordMade (boxOf state) (take (end - used) (drop used window)) r then given) (line : Fills (unpacked r) given room w k)
       (kept : length w ≡ length room) where
-    rest-on : (later : List ℕ) → IsBoxRecord (drop used window ++ later) (made .request) (drop end window ++ later)
+    rest-on : (later : List ℕ) → IsBoxRecord (drop used window ++ later) (made .call) (drop end window ++ later)
     rest-on later =
         let count : end - used ≡ size = omega arith in
         let parts = take-append-drop (end - used) (drop used window) in
@@ -153,29 +170,28 @@ module _ {b : BoxRecord} {window first : List ℕ} {state : State} {used : ℕ} 
         let front = take (end - used) (drop used window) in
         let rest = drop (end - used) (drop used window) in
         let whole = box-record-onward later (box-record-onward rest (made .is)) in
-        subst (λ (l : List ℕ). IsBoxRecord (l ++ later) (made .request) (drop end window ++ later)) parts
-        (subst (λ (l : List ℕ). IsBoxRecord ((front ++ rest) ++ later) (made .request) (l ++ later)) past whole)
+        subst (λ (l : List ℕ). IsBoxRecord (l ++ later) (made .call) (drop end window ++ later)) parts
+        (subst (λ (l : List ℕ). IsBoxRecord ((front ++ rest) ++ later) (made .call) (l ++ later)) past whole)
 
     pub served-on : Underway b window first (then .state) end (back w) (n + k)
     served-on =
-        let m = made .makes in
-        let told : Line (m .answer) [] (line .line) = subst (λ (a : Answer). Line a [] (line .line)) (answer-is m) (line .is-line) in
+        let told : Line (made .answer) given (line .line) = subst (λ (a : Answer). Line a given (line .line)) (answer-is made) (line .is-line) in
         record {
           within = omega (arith, inside .within, ap length left-is, length-drop used window, g .within);
           printed = g .printed ++ line .line;
           count = omega (arith, g .count, line .count, length-append (g .printed) (line .line));
           fits = omega (arith, line .fits, room-length, long, g .fits);
           is = back-is w (line .line) k (line .filled);
-          on = λ later. prints-further (g .on later) (one-record-on (rest-on later) m told);
+          on = λ later. prints-further (g .on later) (one-record-on {b = boxOf state} {after = then} (rest-on later) (made .does) told);
         }
 
   -- what is printed where no record stands has room
-  pub last-has-room : (some : Bool) {w : List ℕ} {k : ℕ} → lineRoom ≤ length before - n → LastTold some room w k → n + k ≤ length first
+  pub last-has-room : (some : Bool) {w : List ℕ} {k : ℕ} → lineLent ≤ length before - n → LastTold some room w k → n + k ≤ length first
   last-has-room true enough t = omega (arith, long, t .0)
   last-has-room false enough t = omega (arith, t .0, g .fits)
 
   -- it has to wait
-  pub waiting : (ends : Bool) → Waits longestInTable ends (length window - used) (length before - n)
+  pub waiting : (ends : Bool) → Waits longestInTable lineLent ends (length window - used) (length before - n)
       → ParkedIs b window ends first before (record { after = boxOf state; used = used; n = n; more = true })
   waiting ends w = record {
     printed = g .printed;
@@ -185,7 +201,7 @@ module _ {b : BoxRecord} {window first : List ℕ} {state : State} {used : ℕ} 
     within = g .within;
     goes = λ _ later. g .on later;
     stops = λ m. absurd (true≢false m);
-    waits = λ _. subst (λ (l : ℕ). Waits longestInTable ends (length window - used) (l - n)) long w;
+    waits = λ _. subst (λ (l : ℕ). Waits longestInTable lineLent ends (length window - used) (l - n)) long w;
   }
 
   -- no record stands there, and it is over
@@ -217,7 +233,7 @@ module _ {b : BoxRecord} {window first : List ℕ} {state : State} {used : ℕ} 
         go (inr y) = absurd (omega (arith, t refl))
 
     pub over-here : (some : Bool) → (some ≡ true → used < length window) → (some ≡ false → length window ≤ used) → {w : List ℕ} {k : ℕ}
-        → lineRoom ≤ length before - n → LastTold some room w k
+        → lineLent ≤ length before - n → LastTold some room w k
         → ParkedIs b window ends first (back w) (record { after = boxOf state; used = used; n = n + k; more = false })
     over-here some s t {w} {k} enough-room (count, is) = record {
       printed = g .printed ++ lastLine some;

@@ -5,17 +5,19 @@ use mathlib.Core.Logic.{inl, inr}
 use Prim.Native.Nat.{ℕ}
 use Rattle.policy.specs.State.{freshState}
 use Rattle.machine.specs.Runs.{none, next}
-use Rattle.machine.specs.Machine.{GateEvent}
-use Rattle.script.specs.Script.{cutLine, no-lines, line-then}
+use Rattle.machine.specs.RunLaws.{run-joined}
+use Rattle.script.specs.Script.{cutLine}
 use Rattle.door.specs.declared.BoxRecord.{BoxRecord}
-use Rattle.parkbox.specs.Parking.{BoxPrints, input-over, record-made, record-broken, ParkPrints}
-use Rattle.parkbox.specs.BoxRuns.{no-further, one-further, EndPrints, BoxRun}
+use Rattle.door.specs.Laws.{done-runs}
+use Rattle.parkbox.specs.Parking.{lentRoom, BoxPrints, input-over, record-made, record-broken, ParkPrints}
+use Rattle.parkbox.specs.BoxRuns.{no-further, one-further, CallMade, no-lines, line-then, EndPrints, BoxRun}
 
 -- no record is left
 at-rest : (b : BoxRecord) (rest last : List ℕ) → EndPrints rest last → BoxRun (b .state) rest last
 at-rest b rest last e = record {
   calls = [];
   last-state = b .state;
+  made = none;
   runs = none;
   rest = rest;
   are-records = no-further;
@@ -29,13 +31,14 @@ at-rest b rest last e = record {
 pub box-run : {b : BoxRecord} {bytes printed : List ℕ} → BoxPrints b bytes printed → BoxRun (b .state) bytes printed
 box-run {b} input-over = at-rest b [] [] (inl (refl, refl))
 box-run {b} {bytes} (record-broken some not) = at-rest b bytes cutLine (inr (some, not, refl))
-box-run {b} (record-made {line = line} {q = q} i m l p) =
+box-run {b} (record-made {after = after} {given = given} {line = line} {c = c} {a = a} i d l p) =
     let w = box-run p in
-    let e : GateEvent = record { before = b .state; request = q; answer = m .answer } in
+    let e : CallMade = record { before = b .state; request = record { call = c; given = given }; answer = a } in
     record {
       calls = e ∷ w .calls;
       last-state = w .last-state;
-      runs = next {e = e} (m .steps) (w .runs);
+      made = next {e = e} d (w .made);
+      runs = run-joined (done-runs (b .state) (after .state) c lentRoom a given d) (w .runs);
       rest = w .rest;
       are-records = one-further i (w .are-records);
       lines = line ++ w .lines;

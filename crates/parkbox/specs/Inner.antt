@@ -5,15 +5,14 @@ use mathlib.Core.List.{List, [], _++_}
 use Prim.Native.Nat.{ℕ, _/_, _%_, _<_, _≤_}
 use lib.ListN.{length, take, drop}
 use Rattle.answer.specs.declared.Answer.{Answer}
-use Rattle.machine.specs.Machine.{Request}
 use Rattle.records.specs.Records.{Unrecorded}
 use Rattle.script.specs.Script.{cutLine}
-use Rattle.door.specs.Box.{IsBoxRecord}
+use Rattle.door.specs.Box.{Call, IsBoxRecord}
 
 -- how many bytes the record at the front has; 0 where none stands there
 pub record SizeIs (bs : List ℕ) (n : ℕ) : Type 0 where
   pub within : n ≤ length bs
-  pub stands : 0 < n → (q : Request) × IsBoxRecord (take n bs) q []
+  pub stands : 0 < n → (c : Call) × IsBoxRecord (take n bs) c []
   pub stands-not : n ≡ 0 → Unrecorded bs
 
 -- the answer that one number stands for

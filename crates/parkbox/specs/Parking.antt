@@ -2,22 +2,27 @@
 use mathlib.Core.Path.{_≡_}
 use mathlib.Core.List.{List, [], _++_}
 use Prim.Native.Nat.{ℕ}
-use Rattle.machine.specs.Machine.{Request}
+use Rattle.answer.specs.declared.Answer.{Answer}
 use Rattle.lines.specs.Lines.{Line}
 use Rattle.script.specs.Script.{cutLine}
 use Rattle.door.specs.declared.BoxRecord.{BoxRecord}
-use Rattle.door.specs.Box.{freshBox, IsBoxRecord, Makes}
+use Rattle.door.specs.Box.{Call, freshBox, IsBoxRecord, Does}
 
 -- no record of the table stands at the front
 abbrev pub NoBoxRecord : List ℕ → Type 0
-NoBoxRecord bs = (q : Request) (rest : List ℕ) → IsBoxRecord bs q rest → ⊥
+NoBoxRecord bs = (c : Call) (rest : List ℕ) → IsBoxRecord bs c rest → ⊥
 
--- from the box b these bytes print this: per record the number, a space, the place, and a line end (no call of today gives bytes out); a broken-off or
--- unknown record prints `cut` and stops; input that ends between two records ends the run with no further line
+-- the room that is lent for what a call gives out
+abbrev pub lentRoom : ℕ
+lentRoom = 512
+
+-- from the box b these bytes print this: per record the number, a space, the place, for each byte that the call gives out a space and two hex digits, and a
+-- line end; a broken-off or unknown record prints `cut` and stops; input that ends between two records ends the run with no further line
 pub data BoxPrints : BoxRecord → List ℕ → List ℕ → Type 0 where
   input-over : {b : BoxRecord} → BoxPrints b [] []
-  record-made : {b after : BoxRecord} {bytes rest line printed : List ℕ} {q : Request} {r : ℕ}
-      → IsBoxRecord bytes q rest → (m : Makes b q r after) → Line (m .answer) [] line → BoxPrints after rest printed → BoxPrints b bytes (line ++ printed)
+  record-made : {b after : BoxRecord} {bytes rest given line printed : List ℕ} {c : Call} {a : Answer}
+      → IsBoxRecord bytes c rest → Does (b .state) c lentRoom a (after .state) given → Line a given line → BoxPrints after rest printed
+      → BoxPrints b bytes (line ++ printed)
   record-broken : {b : BoxRecord} {bytes : List ℕ} → (bytes ≡ [] → ⊥) → NoBoxRecord bytes → BoxPrints b bytes cutLine
 
 -- a whole input prints this, from the fresh box

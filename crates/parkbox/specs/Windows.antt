@@ -2,23 +2,27 @@
 use mathlib.Core.Path.{_≡_}
 use mathlib.Core.Bool.{Bool, true, false}
 use mathlib.Core.List.{List, [], _++_}
-use Prim.Native.Nat.{ℕ, _-_, _≤_}
+use Prim.Native.Nat.{ℕ, _+_, _-_, _*_, _≤_}
 use lib.ListN.{length, take, drop}
-use Rattle.machine.specs.Machine.{Request}
+use Rattle.answer.specs.declared.Answer.{Answer}
 use Rattle.lines.specs.Lines.{Line}
 use Rattle.records.specs.Records.{longestInTable}
 use Rattle.script.specs.Windows.{Waits}
 use Rattle.door.specs.declared.BoxRecord.{BoxRecord}
-use Rattle.door.specs.Box.{freshBox, IsBoxRecord, Makes}
+use Rattle.door.specs.Box.{Call, freshBox, IsBoxRecord, Does}
 use Rattle.parkbox.specs.declared.Parked.{Parked}
-use Rattle.parkbox.specs.Parking.{BoxPrints}
+use Rattle.parkbox.specs.Parking.{lentRoom, BoxPrints}
 
 -- from this box and these bytes to that box and the bytes that are left, this is printed: a line per record
 pub data PrintsTo : BoxRecord → List ℕ → BoxRecord → List ℕ → List ℕ → Type 0 where
   still-there : {b : BoxRecord} {bytes : List ℕ} → PrintsTo b bytes b bytes []
-  past-record : {b mid after : BoxRecord} {bytes rest left line printed : List ℕ} {q : Request} {r : ℕ}
-      → IsBoxRecord bytes q rest → (m : Makes b q r mid) → Line (m .answer) [] line → PrintsTo mid rest after left printed
+  past-record : {b mid after : BoxRecord} {bytes rest left given line printed : List ℕ} {c : Call} {a : Answer}
+      → IsBoxRecord bytes c rest → Does (b .state) c lentRoom a (mid .state) given → Line a given line → PrintsTo mid rest after left printed
       → PrintsTo b bytes after left (line ++ printed)
+
+-- room for any line in an output: 20 digits twice, a space, three for each byte that is given out, and the line end
+abbrev pub lineLent : ℕ
+lineLent = 42 + 3 * lentRoom
 
 -- ---- one window
 -- a run before its first window
@@ -35,7 +39,7 @@ pub record ParkedIs (b : BoxRecord) (window : List ℕ) (ends : Bool) (before af
   pub within : r .used ≤ length window
   pub goes : r .more ≡ true → (later : List ℕ) → PrintsTo b (window ++ later) (r .after) (drop (r .used) window ++ later) printed
   pub stops : r .more ≡ false → (later : List ℕ) → (ends ≡ true → later ≡ []) → BoxPrints b (window ++ later) printed
-  pub waits : r .more ≡ true → Waits longestInTable ends (length window - r .used) (length before - r .n)
+  pub waits : r .more ≡ true → Waits longestInTable lineLent ends (length window - r .used) (length before - r .n)
 
 -- ---- one window after another
 -- each window is the front of what is left of the input, and what it prints is a block: these are the blocks, up to the end of the run

@@ -1,5 +1,5 @@
-// A box that lives as long as its input: records from standard input; per record a line with the number and the place. `refill` and the functions after it
-// read and write; all else stands in the functions before it, over slices.
+// A box that lives as long as its input: records from standard input; per record a line with the number, the place and the bytes given out. `refill` and the
+// functions after it read and write; all else stands in the functions before it, over slices.
 use answer::Answer;
 use door::BoxRecord;
 use libc::STDERR_FILENO;
@@ -7,16 +7,20 @@ use libc::STDIN_FILENO;
 use libc::STDOUT_FILENO;
 use script::WINDOW;
 ghost use mathlib.Core.Path.{_≡_};
-ghost use mathlib.Core.List.{[]};
-ghost use Prim.Native.Nat.{_≤_};
-ghost use lib.ListN.{length};
+ghost use Prim.Native.Nat.{_≤_, _+_, _*_};
+ghost use lib.ListN.{length, take};
 ghost use Rattle.lines.specs.Lines.{Fills};
-ghost use Rattle.script.specs.Windows.{lineRoom};
-ghost use Rattle.parkbox.specs.Windows.{unbegun, ParkedIs};
+ghost use Rattle.parkbox.specs.Windows.{lineLent, unbegun, ParkedIs};
 ghost use Rattle.parkbox.specs.Inner.{SizeIs, unpacked, LastTold};
 
 // The most bytes that a record has: a code, two bytes of length, and as many as they can say.
-const LONGEST_BOX_RECORD: usize = 65538;
+const LONGEST: usize = 65538;
+
+// The room that is lent for what a call gives out.
+const GIVEN: usize = 512;
+
+// The most bytes of a line: 20 digits twice, a space, three for each byte that is given out, and the line end.
+const LINE: usize = 42 + 3 * GIVEN;
 
 // How far a run came: the box; of its last window, how many bytes were used, how many were printed, and whether the run goes on.
 struct Parked {
@@ -46,21 +50,21 @@ fn next_size(rest: &[u8]) -> usize
     parted.end
 }
 
-// The line of an answer that is packed in one number. No record of today gives bytes out.
-fn tell_answer(answer: u64, out: &mut [u8]) -> usize
-    requires { ⌜ lineRoom ≤ length (now out) ⌝ }
-    ensures { λ r. ⌜ Fills (unpacked answer) [] (now (out .entry)) (now (out .exit)) r ⌝ }
+// The line of an answer that is packed in one number, with the first k bytes of those given.
+fn tell_answer(answer: u64, given: &[u8], k: usize, out: &mut [u8]) -> usize
+    requires { ⌜ 42 + 3 * length (now given) ≤ length (now out) ⌝ }
+    ensures { λ r. ⌜ Fills (unpacked answer) (take k (now (given .entry))) (now (out .entry)) (now (out .exit)) r ⌝ }
 {
     let a = Answer {
         number: (answer % 256) as u8,
         place: (answer / 256) as usize,
     };
-    lines::print(a, [0u8; 48], 0, out)
+    lines::print(a, given, k, out)
 }
 
 // What is printed where no record stands: `cut`, where bytes are left.
 fn tell_last(left: bool, out: &mut [u8]) -> usize
-    requires { ⌜ lineRoom ≤ length (now out) ⌝ }
+    requires { ⌜ lineLent ≤ length (now out) ⌝ }
     ensures { λ r. ⌜ LastTold left (now (out .entry)) (now (out .exit)) r ⌝ }
 {
     if !left {
@@ -74,14 +78,14 @@ fn tell_last(left: bool, out: &mut [u8]) -> usize
 }
 
 // The records at the front of a window, one after another, each on the box that the one before it left, while the next one is decided and its line has
-// room. A load leaves a box of its own; any other record alters the slots and one file. The room for what is given out is not used today.
+// room. A load leaves a box of its own; any other record alters the slots and one file.
 fn serve_window(from: BoxRecord, window: &[u8], ends: bool, out: &mut [u8]) -> Parked
     ensures { λ r. ⌜ ParkedIs from (now (window .entry)) ends (now (out .entry)) (now (out .exit)) r ⌝ }
 {
     let mut state = from.state;
     let mut used = 0;
     let mut n = 0;
-    while script::may_play(LONGEST_BOX_RECORD, ends, window.len() - used, out.len() - n) {
+    while script::may_play(LONGEST, LINE, ends, window.len() - used, out.len() - n) {
         let b = BoxRecord { state };
         let size = next_size(&window[used..]);
         if size == 0 {
@@ -89,17 +93,17 @@ fn serve_window(from: BoxRecord, window: &[u8], ends: bool, out: &mut [u8]) -> P
             return came_to(b, used, n, false);
         }
         let end = used + size;
-        let mut given = [0u8; 1];
+        let mut given = [0u8; GIVEN];
         let served = door::serve_record(b, &window[used..end], &mut given);
         if served.loads {
             let loaded = door::load_record(b, &window[used..end]);
-            n += tell_answer(loaded.answer, &mut out[n..]);
+            n += tell_answer(loaded.answer, &given, 0, &mut out[n..]);
             used = end;
             let after = loaded.after;
             state = after.state;
             continue;
         }
-        n += tell_answer(served.answer, &mut out[n..]);
+        n += tell_answer(served.answer, &given, served.given, &mut out[n..]);
         used = end;
         let slots = served.slots;
         let i = served.at;

@@ -9,7 +9,7 @@ use lib.ListN.{length, getD, take, drop, length-append, length-drop, take-append
 use lib.Dec.{eqb}
 use lib.Seq.{take-at, drop-at, length-take-le, getD-drop}
 use Rattle.records.specs.declared.Parted.{Parted}
-use Rattle.records.specs.Records.{Shape, Byte, Short, Long, Quad, Listed, code-01, code-02, code-03, code-04, code-05, code-06}
+use Rattle.records.specs.Records.{Shape, Byte, Short, Long, Quad, Listed, code-01, code-02, code-03, code-04, code-05, code-06, code-10}
 use Rattle.records.specs.Records.{longestInTable, lead, size, Field, Fields, none, next, Recorded, spans, filledUp, Stands, PartedIs}
 
 -- numbers of a list that are bytes; the sum of a list
@@ -82,7 +82,8 @@ shapesFor code =
     (cond (eqb code 2) (Byte ∷ [])
     (cond (eqb code 3) (Byte ∷ Byte ∷ Byte ∷ [])
     (cond (eqb code 6) (Long ∷ [])
-    (Byte ∷ Byte ∷ Byte ∷ Short ∷ Short ∷ []))))
+    (cond (eqb code 16) (Short ∷ [])
+    (Byte ∷ Byte ∷ Byte ∷ Short ∷ Short ∷ [])))))
 
 line-is : {code : ℕ} {ss : List Shape} → Listed code ss → ss ≡ shapesFor code
 line-is code-01 = refl
@@ -91,6 +92,7 @@ line-is code-03 = refl
 line-is code-04 = refl
 line-is code-05 = refl
 line-is code-06 = refl
+line-is code-10 = refl
 
 pub one-line : {code : ℕ} {ss tt : List Shape} → Listed code ss → Listed code tt → ss ≡ tt
 one-line a b = line-is a ∙ sym (line-is b)
@@ -157,6 +159,7 @@ line-most code-03 = omega arith
 line-most code-04 = omega arith
 line-most code-05 = omega arith
 line-most code-06 = omega arith
+line-most code-10 = omega arith
 
 -- no record of bytes is longer than the longest
 pub record-most : {bs rest : List ℕ} {code : ℕ} {fs : List (List ℕ)} → Recorded bs code fs rest → AllBytes bs → length bs ≤ longestInTable + length rest

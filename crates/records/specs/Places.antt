@@ -11,7 +11,7 @@ use lib.Seq.{drop-drop, drop-cons, getD-drop, getD-take, length-take-le, set-at}
 use Rattle.fields.specs.Fronts.{nil-of, cons-nil}
 use Rattle.records.specs.declared.Span.{Span}
 use Rattle.records.specs.declared.Parted.{Parted}
-use Rattle.records.specs.Records.{Shape, Byte, Short, Long, Quad, Listed, code-01, code-02, code-03, code-04, code-05, code-06, mostFields}
+use Rattle.records.specs.Records.{Shape, Byte, Short, Long, Quad, Listed, code-01, code-02, code-03, code-04, code-05, code-06, code-10, mostFields}
 use Rattle.records.specs.Records.{lead, size, Field, Fields, none, next, spans, noSpan, filledUp, Stands, Unrecorded, nothing, PartedIs, AloneIs}
 use Rattle.records.specs.Walk.{shapeOf, shapesIn, spanned, ShapesAre, FieldThere, WalkThere, WalkIs}
 use Rattle.records.specs.Laws.{sizeIn, fieldIn, restIn, field-size, field-in, rest-in, field-length, field-there, one-field, one-line, one-record}
@@ -64,18 +64,19 @@ module _ (s : Shape) (bs : List ℕ) (at : ℕ) (h : at ≤ length bs) where
 pub a-line : (code n : ℕ) (of : List ℕ) → Listed code (shapesIn n of) → n ≤ mostFields → ShapesAre code (record { known = true; n = n; of = of })
 a-line code n of w h = record { known = λ e. (w, h); unknown = λ e. absurd (true≢false e) }
 
-unlisted : (code : ℕ) → (code ≡ 1 → ⊥) → (code ≡ 2 → ⊥) → (code ≡ 3 → ⊥) → (code ≡ 4 → ⊥) → (code ≡ 5 → ⊥) → (code ≡ 6 → ⊥)
+unlisted : (code : ℕ) → (code ≡ 1 → ⊥) → (code ≡ 2 → ⊥) → (code ≡ 3 → ⊥) → (code ≡ 4 → ⊥) → (code ≡ 5 → ⊥) → (code ≡ 6 → ⊥) → (code ≡ 16 → ⊥)
     → (ss : List Shape) → Listed code ss → ⊥
-unlisted code n1 n2 n3 n4 n5 n6 ss code-01 = n1 refl
-unlisted code n1 n2 n3 n4 n5 n6 ss code-02 = n2 refl
-unlisted code n1 n2 n3 n4 n5 n6 ss code-03 = n3 refl
-unlisted code n1 n2 n3 n4 n5 n6 ss code-04 = n4 refl
-unlisted code n1 n2 n3 n4 n5 n6 ss code-05 = n5 refl
-unlisted code n1 n2 n3 n4 n5 n6 ss code-06 = n6 refl
+unlisted code n1 n2 n3 n4 n5 n6 n16 ss code-01 = n1 refl
+unlisted code n1 n2 n3 n4 n5 n6 n16 ss code-02 = n2 refl
+unlisted code n1 n2 n3 n4 n5 n6 n16 ss code-03 = n3 refl
+unlisted code n1 n2 n3 n4 n5 n6 n16 ss code-04 = n4 refl
+unlisted code n1 n2 n3 n4 n5 n6 n16 ss code-05 = n5 refl
+unlisted code n1 n2 n3 n4 n5 n6 n16 ss code-06 = n6 refl
+unlisted code n1 n2 n3 n4 n5 n6 n16 ss code-10 = n16 refl
 
 pub no-line : (code n : ℕ) (of : List ℕ) → (code ≡ 1 → ⊥) → (code ≡ 2 → ⊥) → (code ≡ 3 → ⊥) → (code ≡ 4 → ⊥) → (code ≡ 5 → ⊥) → (code ≡ 6 → ⊥)
-    → ShapesAre code (record { known = false; n = n; of = of })
-no-line code n of n1 n2 n3 n4 n5 n6 = record { known = λ e. absurd (true≢false (sym e)); unknown = λ e. unlisted code n1 n2 n3 n4 n5 n6 }
+    → (code ≡ 16 → ⊥) → ShapesAre code (record { known = false; n = n; of = of })
+no-line code n of n1 n2 n3 n4 n5 n6 n16 = record { known = λ e. absurd (true≢false (sym e)); unknown = λ e. unlisted code n1 n2 n3 n4 n5 n6 n16 }
 
 -- what the first fields were, and where they stand, while the fields are gone through
 pub record Walked (bs : List ℕ) (ss : List Shape) (i at : ℕ) (fields : List Span) : Type 0 where

@@ -16,7 +16,7 @@ pub data Shape : Type 0 where
   Long : Shape
   Quad : Shape
 
--- the table: the shapes of the fields of a record, by its code. No other code has a record
+-- the table: the shapes of the fields of a record, by its code (in the names two hex digits). No other code has a record
 pub data Listed : ℕ → List Shape → Type 0 where
   code-01 : Listed 1 (Byte ∷ Byte ∷ [])
   code-02 : Listed 2 (Byte ∷ [])
@@ -24,6 +24,7 @@ pub data Listed : ℕ → List Shape → Type 0 where
   code-04 : Listed 4 (Byte ∷ Byte ∷ Byte ∷ Short ∷ Short ∷ [])
   code-05 : Listed 5 (Byte ∷ Byte ∷ Byte ∷ Short ∷ Short ∷ [])
   code-06 : Listed 6 (Long ∷ [])
+  code-10 : Listed 16 (Short ∷ [])
 
 -- the most fields that a record has
 abbrev pub mostFields : ℕ

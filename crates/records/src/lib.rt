@@ -64,6 +64,7 @@ fn shapes_of(code: u8) -> Shapes
         4 => line(5, [BYTE, BYTE, BYTE, SHORT, SHORT, 0, 0, 0]),
         5 => line(5, [BYTE, BYTE, BYTE, SHORT, SHORT, 0, 0, 0]),
         6 => line(1, [LONG, 0, 0, 0, 0, 0, 0, 0]),
+        0x10 => line(1, [SHORT, 0, 0, 0, 0, 0, 0, 0]),
         _ => Shapes {
             known: false,
             n: 0,

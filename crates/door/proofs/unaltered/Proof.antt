@@ -1,4 +1,4 @@
--- `door::unaltered` meets its contract: the slots and the first file are stored as they are. Assumes nothing.
+-- `unaltered` meets its contract: the slots and the first file are stored as they are. Assumes nothing.
 use mathlib.Core.Path.{refl}
 use native.Mathlib.Omega.{arith}
 use lib.Seq.{set-getD}
@@ -10,7 +10,11 @@ array-copy-out-file : tie.Need-array-copy-out-file
 array-copy-out-file c = search needs
 
 returns : tie.Need-returns
-returns c = record { loads-is = refl; told = refl; within-files = omega arith; same = simp set-getD }
+returns c = λ tree nroles roles nfiles. record { loads-is = refl; told = refl; count = refl; within-files = omega arith; same = simp set-getD }
 
 pub unaltered-spec : {M : Type 1} → statement M
-unaltered-spec = tie.close (tie.spec array-copy-out-file returns)
+unaltered-spec =
+    tie.close
+    (tie.spec
+    array-copy-out-file
+    returns)

@@ -6,19 +6,18 @@ use Prim.Native.Nat.{ℕ}
 use native.Mathlib.Omega.{arith}
 use lib.ListN.{length, take, length-append}
 use lib.Seq.{take-at}
-use Rattle.machine.specs.Machine.{Request}
 use Rattle.records.specs.declared.Parted.{Parted}
 use Rattle.records.specs.Records.{Recorded, PartedIs}
 use Rattle.records.specs.Laws.{record-alone}
-use Rattle.door.specs.Box.{IsBoxRecord}
-use Rattle.door.specs.Laws.{is-request}
+use Rattle.door.specs.Box.{Call, IsBoxRecord}
+use Rattle.door.specs.Laws.{is-call}
 use Rattle.parkbox.specs.Inner.{SizeIs}
 use borrow.Author.Needs.{needs}
 use Rattle.parkbox.proofs.next_size.Statement.{statement}
 use Rattle.parkbox.proofs.next_size.Tie as tie
 
-alone-request : {bs : List ℕ} {code : ℕ} {fs : List (List ℕ)} → Recorded bs code fs [] → (q : Request) × IsBoxRecord bs q []
-alone-request w = (_, is-request (w .listed) (w .fields) w)
+alone-call : {bs : List ℕ} {code : ℕ} {fs : List (List ℕ)} → Recorded bs code fs [] → (c : Call) × IsBoxRecord bs c []
+alone-call w = (_, is-call (w .listed) (w .fields) w)
 
 size-is : (bs : List ℕ) (r : Parted) → PartedIs bs r → SizeIs bs (r .end)
 size-is bs r (inl w) =
@@ -30,7 +29,7 @@ size-is bs r (inl w) =
     let front : take (r .end) bs ≡ v .front = ap (take (r .end)) (v .is) ∙ take-at (v .front) (w .rest) (r .end) (omega arith) in
     record {
       within = omega arith;
-      stands = λ _. subst (λ (l : List ℕ). (q : Request) × IsBoxRecord l q []) (sym front) (alone-request alone);
+      stands = λ _. subst (λ (l : List ℕ). (c : Call) × IsBoxRecord l c []) (sym front) (alone-call alone);
       stands-not = λ e. absurd (omega arith);
     }
 size-is bs r (inr (n, e)) =

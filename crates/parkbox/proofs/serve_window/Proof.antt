@@ -10,9 +10,9 @@ use borrow.Author.Needs.{needs}
 use borrow.Author.Tests.{ltb-true, ltb-false}
 use Rattle.policy.specs.declared.State.{State}
 use Rattle.door.specs.Inner.{boxAfter}
-use Rattle.parkbox.proofs.Underway.{made-by-load, made-by-request, boxOf, Underway, underway-first, long, room, room-length, left-length, record-here}
+use Rattle.parkbox.proofs.Underway.{made-by-load, made-by-call, boxOf, Underway, underway-first, long, room, room-length, left-length, record-here}
 use Rattle.parkbox.proofs.Underway.{back, back-length, served-on, last-has-room, waiting, over-here}
-use Rattle.script.specs.Windows.{lineRoom}
+use Rattle.parkbox.specs.Windows.{lineLent}
 use Rattle.parkbox.proofs.serve_window.Statement.{statement}
 use Rattle.parkbox.proofs.serve_window.Tie as tie
 
@@ -35,7 +35,7 @@ entry c = turned c .before .before .before .before .before
 room-there : (c : tie.After-next-size Inv-loop μ-loop) → turned c .before .loop .n ≤ length (turned c .before .loop .out)
 room-there c = let g = turned c .before .loop .inv in omega (arith, long g, g .fits)
 
-line-there : (c : tie.After-next-size Inv-loop μ-loop) → lineRoom ≤ length (room (turned c .before .loop .inv))
+line-there : (c : tie.After-next-size Inv-loop μ-loop) → lineLent ≤ length (room (turned c .before .loop .inv))
 line-there c =
     let turn = turned c in
     omega (arith, room-length (turn .before .loop .inv), turn .may-play .ensures .has-room (c .before .before .if1 .taken))
@@ -58,28 +58,34 @@ On c state out k =
     Underway (boxOf (entry c .args .from .state)) (entry c .args .window .now) (entry c .args .out .now) state
     (turned c .before .loop .used + c .next-size .result) (back g out) (turned c .before .loop .n + k)
 
+-- where a line was told, back to where the record was served
+abbrev served : tie.After-tell-answer Inv-loop μ-loop → tie.After-serve-record Inv-loop μ-loop
+served c = c .before .before .before .before .before .before .before
+
+abbrev served2 : tie.After-tell-answer2 Inv-loop μ-loop → tie.After-serve-record Inv-loop μ-loop
+served2 c = c .before .before .before .before .before
+
 loaded : (c : tie.After-tell-answer Inv-loop μ-loop)
-    → On (sized (c .before .before .before .before .before .before)) (c .before .before .load-record .result .after .state) (c .tell-answer .last .1 .0)
-    (c .tell-answer .result)
+    → On (sized (served c)) (c .before .before .before .load-record .result .after .state) (c .tell-answer .last .1 .1 .1 .0) (c .tell-answer .result)
 loaded c =
-    let load = c .before .before .load-record in
-    let which = c .before .before .before .before in
-    let at = sized (which .before .before) in
-    served-on (turned at .before .loop .inv) refl (at .next-size .ensures)
-    (made-by-load (which .before .before .serve-record .ensures) (which .if3 .taken) (load .ensures)) (c .tell-answer .ensures) (c .tell-answer .kept .1 .0)
+    let load = c .before .before .before .load-record in
+    let loads = c .before .before .before .before .before .if3 .taken in
+    let at = sized (served c) in
+    served-on (turned at .before .loop .inv) refl (at .next-size .ensures) (made-by-load (served c .serve-record .ensures) loads (load .ensures))
+    (c .tell-answer .ensures) (c .tell-answer .kept .1 .1 .1 .0)
 
 altered : (c : tie.After-tell-answer2 Inv-loop μ-loop)
-    → let at = sized (c .before .before .before .before) in
-    On at (boxAfter (boxOf (turned at .before .loop .state)) (c .before .before .before .before .serve-record .result) .state) (c .tell-answer2 .last .1 .0)
+    → let at = sized (served2 c) in
+    On at (boxAfter (boxOf (turned at .before .loop .state)) (served2 c .serve-record .result) .state) (c .tell-answer2 .last .1 .1 .1 .0)
     (c .tell-answer2 .result)
 altered c =
-    let which = c .before .before in
-    let served = which .before .before in
-    let at = sized served in
+    let serve = served2 c .serve-record in
+    let loads-not = c .before .before .before .if3 .left in
+    let at = sized (served2 c) in
     let g = turned at .before .loop .inv in
-    let i = record-here g refl (served .before .before .before .if2 .left) (at .next-size .ensures) in
-    served-on g refl (at .next-size .ensures) (made-by-request (i .1) (served .serve-record .ensures) (which .if3 .left)) (c .tell-answer2 .ensures)
-    (c .tell-answer2 .kept .1 .0)
+    let i = record-here g refl (served2 c .before .before .before .if2 .left) (at .next-size .ensures) in
+    served-on g refl (at .next-size .ensures) (made-by-call refl (i .1) (serve .ensures) loads-not) (c .tell-answer2 .ensures)
+    (c .tell-answer2 .kept .1 .1 .1 .0)
 
 loop-holds : tie.Need-loop-holds Inv-loop μ-loop
 loop-holds c = underway-first _ _ _
@@ -178,60 +184,68 @@ part-load-record-end c = in-window (sized (c .before .before))
 load-record-requires : tie.Need-load-record-requires Inv-loop μ-loop
 load-record-requires c κs = search needs
 
+slice-aggregate-tell-answer : tie.Need-slice-aggregate-tell-answer Inv-loop μ-loop
+slice-aggregate-tell-answer c = search needs
+
 sub-tell-answer : tie.Need-sub-tell-answer Inv-loop μ-loop
-sub-tell-answer c = room-there (sized (c .before .before .before .before))
+sub-tell-answer c = room-there (sized (c .before .before .before .before .before))
 
 part-tell-answer-start : tie.Need-part-tell-answer-start Inv-loop μ-loop
-part-tell-answer-start c = room-there (sized (c .before .before .before .before))
+part-tell-answer-start c = room-there (sized (c .before .before .before .before .before))
 
 part-tell-answer-end : tie.Need-part-tell-answer-end Inv-loop μ-loop
 part-tell-answer-end c = search needs
 
 tell-answer-requires : tie.Need-tell-answer-requires Inv-loop μ-loop
-tell-answer-requires c κs = line-there (sized (c .before .before .before .before .before))
+tell-answer-requires c κs =
+    let done = c .before .before .before .before .before .before in
+    omega (arith, line-there (sized done), done .serve-record .kept .1 .1 .0)
 
 add-n-2 : tie.Need-add-n-2 Inv-loop μ-loop
 add-n-2 c =
     let told = c .before .before in
-    let at = sized (told .before .before .before .before .before .before) in
-    omega (arith, loaded told .fits, entry at .good)
+    omega (arith, loaded told .fits, entry (sized (served told)) .good)
 
 loop-less : tie.Need-loop-less Inv-loop μ-loop
 loop-less c =
-    let served = c .before .before .before .before .before .before .before .before .before .before in
-    further (sized served) (served .before .before .before .if2 .left)
+    let done = served (c .before .before .before .before) in
+    further (sized done) (done .before .before .before .if2 .left)
 
 loop-again : tie.Need-loop-again Inv-loop μ-loop
 loop-again c = loaded (c .before .before .before .before)
 
+slice-aggregate-tell-answer-2 : tie.Need-slice-aggregate-tell-answer-2 Inv-loop μ-loop
+slice-aggregate-tell-answer-2 c = search needs
+
 sub-tell-answer-2 : tie.Need-sub-tell-answer-2 Inv-loop μ-loop
-sub-tell-answer-2 c = room-there (sized (c .before .before))
+sub-tell-answer-2 c = room-there (sized (c .before .before .before))
 
 part-tell-answer-start-2 : tie.Need-part-tell-answer-start-2 Inv-loop μ-loop
-part-tell-answer-start-2 c = room-there (sized (c .before .before))
+part-tell-answer-start-2 c = room-there (sized (c .before .before .before))
 
 part-tell-answer-end-2 : tie.Need-part-tell-answer-end-2 Inv-loop μ-loop
 part-tell-answer-end-2 c = search needs
 
 tell-answer-requires-2 : tie.Need-tell-answer-requires-2 Inv-loop μ-loop
-tell-answer-requires-2 c κs = line-there (sized (c .before .before .before))
+tell-answer-requires-2 c κs =
+    let done = c .before .before .before .before in
+    omega (arith, line-there (sized done), done .serve-record .kept .1 .1 .0)
 
 add-n-3 : tie.Need-add-n-3 Inv-loop μ-loop
 add-n-3 c =
     let told = c .before .before in
-    let at = sized (told .before .before .before .before) in
-    omega (arith, altered told .fits, entry at .good)
+    omega (arith, altered told .fits, entry (sized (served2 told)) .good)
 
 mul-file : tie.Need-mul-file Inv-loop μ-loop
-mul-file c = omega (arith, c .before .before .before .before .before .before .before .before .serve-record .ensures .within-files)
+mul-file c = omega (arith, served2 (c .before .before .before .before) .serve-record .ensures .within-files)
 
 element-set-from-file : tie.Need-element-set-from-file Inv-loop μ-loop
-element-set-from-file c = c .before .before .before .before .before .before .before .before .serve-record .ensures .within-files
+element-set-from-file c = served2 (c .before .before .before .before) .serve-record .ensures .within-files
 
 loop-less-2 : tie.Need-loop-less-2 Inv-loop μ-loop
 loop-less-2 c =
-    let served = c .before .before .before .before .before .before .before .before in
-    further (sized served) (served .before .before .before .if2 .left)
+    let done = served2 (c .before .before .before .before) in
+    further (sized done) (done .before .before .before .if2 .left)
 
 loop-again-2 : tie.Need-loop-again-2 Inv-loop μ-loop
 loop-again-2 c = altered (c .before .before .before .before)
@@ -279,6 +293,7 @@ serve-window-spec =
     part-load-record-start
     part-load-record-end
     load-record-requires
+    slice-aggregate-tell-answer
     sub-tell-answer
     part-tell-answer-start
     part-tell-answer-end
@@ -286,6 +301,7 @@ serve-window-spec =
     add-n-2
     loop-less
     loop-again
+    slice-aggregate-tell-answer-2
     sub-tell-answer-2
     part-tell-answer-start-2
     part-tell-answer-end-2

@@ -1,6 +1,6 @@
 -- `records::shapes_of` meets its contract: each arm is a line of the table. Assumes nothing.
 use native.Mathlib.Omega.{arith}
-use Rattle.records.specs.Records.{code-01, code-02, code-03, code-04, code-05, code-06}
+use Rattle.records.specs.Records.{code-01, code-02, code-03, code-04, code-05, code-06, code-10}
 use Rattle.records.specs.Places.{a-line, no-line}
 use borrow.Author.Needs.{needs}
 use Rattle.records.proofs.shapes_of.Statement.{statement}
@@ -24,6 +24,9 @@ line-requires-5 c κs = search needs
 line-requires-6 : tie.Need-line-requires-6
 line-requires-6 c κs = search needs
 
+line-requires-7 : tie.Need-line-requires-7
+line-requires-7 c κs = search needs
+
 returns : tie.Need-returns
 returns c = rw (c .line .ensures, c .before .match .keys1) (a-line 1 _ _ code-01 (omega arith))
 
@@ -43,9 +46,12 @@ returns-6 : tie.Need-returns-6
 returns-6 c = rw (c .line6 .ensures, c .before .match .keys6) (a-line 6 _ _ code-06 (omega arith))
 
 returns-7 : tie.Need-returns-7
-returns-7 c =
+returns-7 c = rw (c .line7 .ensures, c .before .match .keys7) (a-line 16 _ _ code-10 (omega arith))
+
+returns-8 : tie.Need-returns-8
+returns-8 c =
     let no = c .match .rest in
-    no-line (c .before .args .code) 0 _ (no .0 .0 .0 .0 .0 .1) (no .0 .0 .0 .0 .1) (no .0 .0 .0 .1) (no .0 .0 .1) (no .0 .1) (no .1)
+    no-line (c .before .args .code) 0 _ (no .0 .0 .0 .0 .0 .0 .1) (no .0 .0 .0 .0 .0 .1) (no .0 .0 .0 .0 .1) (no .0 .0 .0 .1) (no .0 .0 .1) (no .0 .1) (no .1)
 
 pub shapes-of-spec : {M : Type 1} → statement M
 shapes-of-spec =
@@ -57,10 +63,12 @@ shapes-of-spec =
     line-requires-4
     line-requires-5
     line-requires-6
+    line-requires-7
     returns
     returns-2
     returns-3
     returns-4
     returns-5
     returns-6
-    returns-7)
+    returns-7
+    returns-8)
