@@ -6,8 +6,9 @@
  * it and take answers apart; they are tested, and not proved.
  *
  * What the caller owes: a pointer is never null, also where its length is 0, but for the
- * expressions of gate_change and gate_bypass; it has as many bytes as the length beside it says;
- * and nothing that is lent to be written, a box or an `out`, overlaps anything else that is lent.
+ * expressions of gate_change, gate_bypass and gate_print and the `out` of gate_print; it has as
+ * many bytes as the length beside it says; and nothing that is lent to be written, a box or an
+ * `out`, overlaps anything else that is lent.
  *
  * Threads: the library has no variable of its own and takes no lock. A box is one thread's at a
  * time: whoever shares one locks it, for an ask as well. Calls on different boxes need no lock.
@@ -37,7 +38,8 @@ extern "C" {
 typedef uint64_t gate_answer;
 
 enum gate_numbers {
-    GATE_DONE = 0,             /* done or granted; of a text: the place is the count of bytes    */
+    GATE_DONE = 0,             /* done or granted; of a text: the place is the count of bytes; of
+                                  a print: the place is the length of the text                   */
     GATE_MARK_WRONG = 1,       /* mark wrong; the first wrong byte                               */
     GATE_VERSION_WRONG = 2,    /* version not 1; 3                                               */
     GATE_ENDS_EARLY = 3,       /* image ends early; its length                                   */
@@ -60,7 +62,7 @@ enum gate_numbers {
     GATE_TEXT_WRONG = 18,      /* text wrong; the first byte that no legal text goes on with, or
                                   the text's length; 512 where the text is longer than that      */
     GATE_TEXT_LONG = 19,       /* text makes over 48 bytes                                       */
-    GATE_BUFFER_SHORT = 20,    /* output buffer under 48 bytes                                   */
+    GATE_BUFFER_SHORT = 20,    /* output buffer too short: under 48 bytes; of a print, under 512 */
     GATE_NO_RECORD = 255       /* no record: of gate_serve alone, and not of the rules' table    */
 };
 
@@ -96,7 +98,7 @@ static inline const char *gate_words(uint32_t number) {
     case GATE_ILL_FORMED: return "state not well formed";
     case GATE_TEXT_WRONG: return "text wrong";
     case GATE_TEXT_LONG: return "text makes over 48 bytes";
-    case GATE_BUFFER_SHORT: return "output buffer under 48 bytes";
+    case GATE_BUFFER_SHORT: return "output buffer too short";
     case GATE_NO_RECORD: return "no record";
     default: return "no number of the table";
     }
@@ -118,7 +120,8 @@ static inline const char *gate_words(uint32_t number) {
 #define GATE_MOST_FILES 32         /* of a policy                                                */
 #define GATE_MOST_SECURONS 64      /* of a policy's tree                                         */
 #define GATE_LONGEST_EXPRESSION 48 /* in bytes, as all that follow                               */
-#define GATE_LONGEST_TEXT 512      /* the text of an expression; a longer one is refused         */
+#define GATE_LONGEST_TEXT 512      /* the text of an expression; a longer one is refused. It is
+                                      the least room for a print too                             */
 #define GATE_LONGEST_IMAGE 51815   /* a longer one is refused                                    */
 #define GATE_LONGEST_RECORD 65538  /* a load of 65,535 bytes; a longer one is no record          */
 
@@ -175,6 +178,7 @@ typedef char gate_lengths_have_64_bits[sizeof(size_t) == 8 ? 1 : -1];
  *   ask      17 8 9 12 13 14 15
  *   change   17 8 9 12 13 14 6
  *   bypass   17 8 9 12 13 14 6 16
+ *   print    17 6 20
  */
 
 /* Makes a box fresh, whatever it held: the root alone, no role, no file, all slots free. */
@@ -192,9 +196,12 @@ gate_answer gate_load(gate_box *box, const uint8_t *image, size_t image_len);
  *   change   04 slot file mode, a length byte and T1, a length byte and T2
  *   bypass   05 slot file mode, a length byte and E, a length byte and G
  *   load     06, a length of 16 bits with its low byte first, an image
+ *   print    10, a length byte and an expression; gives its text out
  *
- * Any other bytes are no record: 255 at place 0, and nothing is altered. No record gives bytes out
- * yet: `out`, of any length, is left as it was.
+ * Any other bytes are no record: 255 at place 0, and nothing is altered. What a call gives out goes
+ * to the front of `out`, and the place is how many bytes that is; the rest of `out` is left as it
+ * was. Only a print gives bytes out, and only it looks at how long `out` is. A refused call gives
+ * out nothing.
  */
 gate_answer gate_serve(gate_box *box, const uint8_t *record, size_t record_len, uint8_t *out, size_t out_len);
 
@@ -205,10 +212,11 @@ gate_answer gate_serve(gate_box *box, const uint8_t *record, size_t record_len, 
 #define GATE_CHANGE 4
 #define GATE_BYPASS 5
 #define GATE_LOAD 6
+#define GATE_PRINT 16
 
 /* ---- Requests as calls --------------------------------------------------------------------- */
 
-/* The parts that gate_begin, gate_end, gate_ask, gate_change and gate_bypass are made of. */
+/* The parts that the calls below are made of. */
 
 /*
  * The number of a slot, role, file or mode as a byte of a record. There is none with the number
@@ -216,10 +224,16 @@ gate_answer gate_serve(gate_box *box, const uint8_t *record, size_t record_len, 
  */
 static inline uint8_t gate_byte(size_t number) { return (uint8_t)(number < 255 ? number : 255); }
 
+/* Makes the call of a record with so much room, which may be none and a null pointer. */
+static inline gate_answer gate_call_in(gate_box *box, const uint8_t *record, size_t record_len, uint8_t *out,
+                                       size_t room) {
+    uint8_t none = 0;
+    return gate_serve(box, record, record_len, room ? out : &none, room);
+}
+
 /* Makes the call of a record that gives nothing out. */
 static inline gate_answer gate_call(gate_box *box, const uint8_t *record, size_t record_len) {
-    uint8_t none = 0;
-    return gate_serve(box, record, record_len, &none, 0);
+    return gate_call_in(box, record, record_len, NULL, 0);
 }
 
 /*
@@ -278,6 +292,23 @@ static inline gate_answer gate_change(gate_box *box, size_t slot, size_t file, s
 static inline gate_answer gate_bypass(gate_box *box, size_t slot, size_t file, size_t mode, const uint8_t *e,
                                       size_t e_length, const uint8_t *g, size_t g_length) {
     return gate_store(box, GATE_BYPASS, slot, file, mode, e, e_length, g, g_length);
+}
+
+/*
+ * Prints an expression as text to the front of `out`, such as 4&10|7 of the bytes that gate_text
+ * makes of it: no spaces, and parentheses only where the grouping needs them. The text is not ended
+ * by a zero byte; the place is its length, which is 0 for an expression of length 0. Reading the
+ * text by gate_text gives the same bytes again.
+ *
+ * The expression has to be in order for the box's tree; OR may stand in it. `out` has to have room
+ * for 512 bytes (GATE_LONGEST_TEXT), however short the text is. Alters nothing of the box, and
+ * nothing of `out` past the text. An expression of length 0 may be a null pointer, and one of any
+ * length over 48 is wrong at place 48; an `out` without room may be a null pointer.
+ */
+static inline gate_answer gate_print(gate_box *box, const uint8_t *expression, size_t length, uint8_t *out,
+                                     size_t room) {
+    uint8_t record[1 + (GATE_LONGEST_EXPRESSION + 2)] = {GATE_PRINT};
+    return gate_call_in(box, record, gate_put(record, 1, expression, length), out, room);
 }
 
 /* ---- Whole inputs and texts ---------------------------------------------------------------- */

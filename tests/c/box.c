@@ -1,8 +1,8 @@
 /*
- * A box that is kept, from C and from C++, on answers by hand from the scope paper: every record,
- * by its bytes and by its typed call; every number that a box answers with; refusals that alter
- * nothing; zeroed, random and damaged memory as a box; bytes that are no record; rooms of every
- * length. The box, the inputs and the rooms end where no byte may be touched.
+ * A box that is kept, from C and from C++, on answers by hand from the scope paper: every record but
+ * a print (print.c), by its bytes and by its typed call; every number that these answer with;
+ * refusals that alter nothing; zeroed, random and damaged memory as a box; bytes that are no record;
+ * rooms of every length. The box, the inputs and the rooms end where no byte may be touched.
  */
 #include "gate.h"
 
@@ -502,7 +502,7 @@ static void no_records(void) {
     }
     memset(bytes, 0, sizeof bytes);
     for (unsigned code = 0; code < 256; code++) {
-        if (GATE_BEGIN <= code && code <= GATE_LOAD) continue;
+        if ((GATE_BEGIN <= code && code <= GATE_LOAD) || code == GATE_PRINT) continue;
         bytes[0] = (uint8_t)code;
         for (size_t length = 1; length < 8; length++) no_record(bytes, length, "an unknown code");
     }

@@ -124,6 +124,12 @@ static const uint8_t ands[48] = {3, 3, 3, 3, 3, 3, 3, 3, 3, 3, 3, 3, 3, 3, 3, 3,
                                  3, 3, 3, 3, 3, 3, 3, 3, 3, 3, 3, 3, 3, 3, 3, 3, 3, 3, 3, 3, 3, 3, 3, 3};
 static const uint8_t five[2] = {1, 5};
 
+/* Sixteen securons, and nine ranges and a securon, each on the right of the one before: the deepest that way. */
+static const uint8_t right[47] = {3, 1, 5, 3, 1, 5, 3, 1, 5, 3, 1, 5, 3, 1, 5, 3, 1, 5, 3, 1, 5, 3, 1, 5,
+                                  3, 1, 5, 3, 1, 5, 3, 1, 5, 3, 1, 5, 3, 1, 5, 3, 1, 5, 3, 1, 5, 1, 5};
+static const uint8_t ranges[47] = {4, 2, 63, 10, 63, 4, 2, 63, 10, 63, 4, 2, 63, 10, 63, 4, 2, 63, 10, 63, 4, 2, 63, 10,
+                                   63, 4, 2, 63, 10, 63, 4, 2, 63, 10, 63, 4, 2, 63, 10, 63, 4, 2, 63, 10, 63, 1, 63};
+
 static uint8_t input[2 + GATE_LONGEST_IMAGE + 1024];
 static size_t filled;
 
@@ -251,6 +257,22 @@ static void requests(const uint8_t *bytes, size_t count, gate_answer row) {
     served("end", GATE_DONE);
 }
 
+/* A print of these bytes, on the box as it is. */
+static void printed(const uint8_t *bytes, size_t count, gate_answer answer) {
+    put_byte(GATE_PRINT);
+    put_counted(bytes, count);
+    served("print", answer);
+}
+
+/* Prints of the deepest expressions, of the longest text, and one that is refused at its end. */
+static void prints(void) {
+    printed(wide, sizeof wide, GATE_DONE + 256 * 47);
+    printed(deep, sizeof deep, GATE_DONE + 256 * 31);
+    printed(right, sizeof right, GATE_DONE + 256 * 59);
+    printed(ranges, sizeof ranges, GATE_DONE + 256 * 117);
+    printed(ands, sizeof ands, GATE_EXPRESSION_WRONG + 256 * 48);
+}
+
 static void calls_on_a_box(void) {
     struct call fresh = {"fresh", FRESH, input, 0, "", GATE_DONE};
     say_group("a box made fresh");
@@ -271,6 +293,10 @@ static void calls_on_a_box(void) {
     put_image(deep, 47, 1);
     loaded("load the deepest expressions", GATE_DONE);
     requests(deep, 47, GATE_DONE);
+    say_group("prints on a box, a long image");
+    put_image(wide, 48, 1);
+    loaded("load a long image", GATE_DONE);
+    prints();
     say_group("refused calls on a box");
     put_image(wide, 48, 0);
     memcpy(input + filled - 48, ands, 48);

@@ -99,6 +99,11 @@ fn things<'a>(timed: &'a Timed, boxes: &Boxes) -> Vec<(String, [Side<'a>; 2])> {
             refused => refused,
         },
     );
+    let print = boxes.sides(
+        0,
+        move |park| park.print(t1, &mut [0; gate::MOST_TEXT]).map(|_| ()),
+        move |state| state.print(t1, &mut [0; gate::MOST_TEXT]),
+    );
     let load = boxes.sides(
         0,
         |park| park.load(&timed.image),
@@ -111,6 +116,7 @@ fn things<'a>(timed: &'a Timed, boxes: &Boxes) -> Vec<(String, [Side<'a>; 2])> {
         (name("change, granted"), change),
         (name("bypass, granted"), bypass),
         (name("begin and end, both"), both),
+        (format!("print of {} bytes", t1.len()), print),
         (format!("load of {} bytes", timed.image.len()), load),
     ]
 }

@@ -1,20 +1,22 @@
 //! Boxes that are kept: library and twin call by call, each on a box of its own that lives on.
 //!
 //! After each call, granted or not, the bytes of the box are compared with what they have to be:
-//! after a granted call but ask the twin's state, else those before the call. Every slot, file and
-//! mode is asked after some sequences, and in one part after each granted call that alters the box.
+//! after a granted call but ask and print the twin's state, else those before the call. Every slot,
+//! file and mode is asked after some sequences, and in one part after each granted call that alters
+//! the box. What is printed is read back, printed again, and looked at for needless parentheses.
 
 mod box_call;
 mod damage;
 mod layout;
 mod pair;
 mod parts;
+mod prints;
 mod tally;
 
 #[cfg(test)]
 mod tests;
 
-pub use box_call::load;
+pub use box_call::{load, PRINT};
 
 use crate::draw::Draw;
 use crate::runner::from_hex;
@@ -72,7 +74,11 @@ pub fn records(hex: &str) -> Result<String, String> {
         let length = box_call::whole(rest).unwrap_or(rest.len());
         let (record, others) = rest.split_at(length);
         let answer = pair.call(&BoxCall::Record(record), &mut tally)?;
-        said += &format!("{} {}\n", answer.number, answer.place);
+        said += &format!("{} {}", answer.number, answer.place);
+        for byte in pair.given() {
+            said += &format!(" {byte:02x}");
+        }
+        said += "\n";
         rest = others;
     }
     Ok(format!("{said}compare: no difference"))

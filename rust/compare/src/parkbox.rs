@@ -1,8 +1,9 @@
 //! The program `parkbox` against the twin: records on one box, far more than a window holds, loads
-//! among them; and the longest records over the ends of windows.
+//! and prints among them; the longest records over the ends of windows; and the longest lines, which
+//! prints have, over the ends of blocks.
 
 use crate::draw::Draw;
-use crate::kept::load;
+use crate::kept::{load, PRINT};
 use crate::parts::small;
 use crate::policies;
 use crate::program::{difference, lines, printed};
@@ -13,6 +14,10 @@ use std::collections::BTreeMap;
 const INPUTS: usize = 60;
 const PART: usize = 104;
 const OVER: usize = 105;
+const LINES: usize = 106;
+
+/// How many inputs of long lines the program is given.
+const LONG_LINES: usize = 16;
 
 /// The longest record: a load's code, its length in two bytes, and an image of 65,535.
 const LONGEST: usize = 3 + 65_535;
@@ -49,6 +54,17 @@ pub fn compare(path: &str, seed: u64) -> Result<String, String> {
             }
         }
     }
+    for round in 0..LONG_LINES {
+        let mut draw = Draw::new(seed, LINES, round);
+        let input = long_lines(&mut draw);
+        let piece = draw.pick(&[input.len(), 4_096, 1_000 + round]);
+        reached.one(
+            path,
+            &input,
+            piece,
+            &format!("seed {seed}, long lines {round}"),
+        )?;
+    }
     reached.said(inputs, loads)
 }
 
@@ -76,14 +92,16 @@ pub fn few(path: &str, seed: u64) -> Result<String, String> {
     ))
 }
 
-/// What was reached: inputs, their bytes and the longest, the lines that they print, granted loads
-/// among them, and how many end in `cut`; the numbers that were printed.
+/// What was reached: inputs, their bytes and the longest, the lines that they print, those of them
+/// that give bytes out, granted loads among them, and how many end in `cut`; the numbers that were
+/// printed.
 #[derive(Default)]
 struct Reached {
     inputs: usize,
     bytes: usize,
     longest: usize,
     lines: usize,
+    prints: usize,
     loads: usize,
     cuts: usize,
     numbers: BTreeMap<String, usize>,
@@ -107,7 +125,9 @@ impl Reached {
         self.loads += usize::from(input.first() == Some(&6));
         self.cuts += usize::from(expected.ends_with(b"cut\n"));
         for line in expected.split(|&byte| byte == b'\n') {
-            let number = line.split(|&byte| byte == b' ').next().unwrap_or(line);
+            let mut words = line.split(|&byte| byte == b' ');
+            let number = words.next().unwrap_or(line);
+            self.prints += usize::from(words.count() > 1);
             let number = String::from_utf8_lossy(number).into_owned();
             *self.numbers.entry(number).or_default() += 1;
         }
@@ -122,16 +142,23 @@ impl Reached {
         if !never.is_empty() {
             return Err(format!("parkbox never printed {}", never.join(", ")));
         }
-        let over = self.inputs - drawn;
+        if self.prints < 10_000 {
+            return Err(format!(
+                "parkbox gave out {} texts, under 10000",
+                self.prints
+            ));
+        }
+        let over = self.inputs - drawn - LONG_LINES;
         let Reached {
             bytes,
             longest,
             lines,
+            prints,
             cuts,
             ..
         } = self;
         Ok(format!(
-            "compare: {drawn} inputs to parkbox, {loads} with a load in front, and {over} with long records over a window's end, {bytes} bytes, the longest of {longest}, {lines} lines, {cuts} cut, no difference"
+            "compare: {drawn} inputs to parkbox, {loads} with a load in front, and {over} with long records over a window's end, and {LONG_LINES} with long lines, {bytes} bytes, the longest of {longest}, {lines} lines, {prints} with a text, {cuts} cut, no difference"
         ))
     }
 }
@@ -151,7 +178,7 @@ fn drawn(draw: &mut Draw, round: usize) -> Vec<u8> {
             input.extend(load(&image));
         }
         let count = 20 + draw.below(400);
-        input.extend(For::policy(&policy).records(draw, count));
+        input.extend(For::kept(&policy).records(draw, count));
         input.extend(load(&wrong(draw, &image)));
         let small = small(draw).to_image();
         for _ in 0..6 {
@@ -190,8 +217,17 @@ fn over(draw: &mut Draw, window: usize, before: usize, end: usize) -> Vec<u8> {
     let image = policy.to_image();
     let mut input = load(&image);
     while input.len() + 518 <= window - before {
-        input.extend([4 + draw.byte(2), draw.byte(4), draw.byte(2), draw.byte(5)]);
-        for _ in 0..2 {
+        let expressions = match draw.below(3) {
+            0 => {
+                input.push(PRINT);
+                1
+            }
+            code => {
+                input.extend([3 + code as u8, draw.byte(4), draw.byte(2), draw.byte(5)]);
+                2
+            }
+        };
+        for _ in 0..expressions {
             input.push(255);
             input.extend(draw.bytes(255));
         }
@@ -207,6 +243,24 @@ fn over(draw: &mut Draw, window: usize, before: usize, end: usize) -> Vec<u8> {
         0 => input.extend([1, 0, 0, 3, 0, 0, 0, 3, 16, 0, 0, 2, 0, 2, 0]),
         1 => {}
         _ => drop(input.pop()),
+    }
+    input
+}
+
+/// An input whose prints have the longest lines, with others among them.
+fn long_lines(draw: &mut Draw) -> Vec<u8> {
+    let line = policies::line();
+    let drawn = For::kept(&line);
+    let mut input = load(&line.to_image());
+    let others = draw.pick(&[2, 5, 40, 1_000]);
+    for _ in 0..1_000 {
+        if draw.one_in(others) {
+            input.extend(drawn.record(draw));
+            continue;
+        }
+        let longest = policies::longest_print(draw.pick(&[3, 4]));
+        input.extend([PRINT, longest.len() as u8]);
+        input.extend(longest);
     }
     input
 }

@@ -98,6 +98,40 @@ pub fn protection(draw: &mut Draw, over: Over) -> Vec<u8> {
     }
 }
 
+/// A protection expression of which each operand that has an operator stands on the right, so that
+/// its print has as many parentheses as can be.
+pub fn to_the_right(draw: &mut Draw, over: Over) -> Vec<u8> {
+    let operators = draw.pick(&[&[3][..], &[4], &[3, 4]]);
+    let most = MOST - draw.below(MOST - 4);
+    let mut bytes = term(draw, over);
+    loop {
+        let mut longer = vec![draw.pick(operators)];
+        longer.extend(term(draw, over));
+        longer.extend(&bytes);
+        if longer.len() > most {
+            return bytes;
+        }
+        bytes = longer;
+    }
+}
+
+/// The expression with the longest print of all over a tree of 64 securons in one line: nine ranges
+/// and a securon, with two digits in every number.
+pub fn longest_print(operator: u8) -> Vec<u8> {
+    let mut bytes = [operator, 2, 63, 10, 63].repeat(9);
+    bytes.extend([1, 63]);
+    bytes
+}
+
+/// A policy of that tree alone.
+pub fn line() -> Policy {
+    Policy {
+        parents: (0..63).collect(),
+        roles: Vec::new(),
+        files: Vec::new(),
+    }
+}
+
 /// What roles and files of one policy share: sets that are asked for and held.
 struct Themes {
     over: Over,

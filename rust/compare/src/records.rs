@@ -1,7 +1,8 @@
 //! Replay inputs: records of requests, drawn for a policy.
 
 use crate::draw::Draw;
-use crate::policies::{damaged, over, privilege, protection, Over};
+use crate::kept::PRINT;
+use crate::policies::{damaged, over, privilege, protection, to_the_right, Over};
 use twin::image::Policy;
 
 /// An input: the length, the image, and the records.
@@ -17,15 +18,25 @@ pub struct For {
     over: Over,
     roles: usize,
     files: usize,
+    prints: bool,
 }
 
 impl For {
-    /// Records for a policy.
+    /// Records of a replay for a policy.
     pub fn policy(policy: &Policy) -> For {
         For {
             over: over(&policy.parents),
             roles: policy.roles.len(),
             files: policy.files.len(),
+            prints: false,
+        }
+    }
+
+    /// Records of a box for a policy: prints among them.
+    pub fn kept(policy: &Policy) -> For {
+        For {
+            prints: true,
+            ..For::policy(policy)
         }
     }
 
@@ -47,6 +58,7 @@ impl For {
     /// A record, most often an ask.
     pub fn record(&self, draw: &mut Draw) -> Vec<u8> {
         let code = match draw.below(100) {
+            _ if self.prints && draw.one_in(6) => PRINT,
             0..=11 => 1,
             12..=15 => 2,
             16..=59 => 3,
@@ -56,12 +68,13 @@ impl For {
         self.record_of(draw, code)
     }
 
-    /// A record with this code, 1 to 5.
+    /// A record with this code, 1 to 5 or a print's.
     pub fn record_of(&self, draw: &mut Draw, code: u8) -> Vec<u8> {
         match code {
             1 => vec![1, slot(draw), part_of(draw, self.roles)],
             2 => vec![2, slot(draw)],
             3 => self.row(draw, 3).to_vec(),
+            PRINT => self.print(draw),
             code => self.twice(draw, code),
         }
     }
@@ -86,6 +99,21 @@ impl For {
             }
             push(&mut record, &bytes);
         }
+        record
+    }
+
+    /// A print of an expression of any shape; one in five is damaged.
+    fn print(&self, draw: &mut Draw) -> Vec<u8> {
+        let mut bytes = match draw.below(4) {
+            0 => privilege(draw, self.over),
+            1 => to_the_right(draw, self.over),
+            _ => protection(draw, self.over),
+        };
+        if draw.one_in(5) {
+            bytes = damaged(draw, &bytes);
+        }
+        let mut record = vec![PRINT];
+        push(&mut record, &bytes);
         record
     }
 

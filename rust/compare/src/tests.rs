@@ -118,6 +118,17 @@ fn the_twin_answers_the_cases_by_hand() {
 }
 
 #[test]
+fn the_twin_answers_the_boxs_cases_by_hand() {
+    let records = include_bytes!("../../../crates/parkbox/stdin");
+    let by_hand = include_str!("../../../crates/parkbox/stdout");
+    let written = String::from_utf8(twin::parkbox(records)).expect("plain text");
+    for (written, by_hand) in written.lines().zip(by_hand.lines()) {
+        assert_eq!(written, by_hand);
+    }
+    assert_eq!(written, by_hand);
+}
+
+#[test]
 fn a_case_that_is_no_call_is_found() {
     assert!(cases::written("x: nothing").is_err());
     assert!(cases::written(": change 00 00 00 02 01").is_err());

@@ -83,7 +83,7 @@ impl Refusal {
 
     /// Where: the place that the number names, 0 if it names none.
     ///
-    /// Of an image it is a byte of the image, or its length. Of a change or a bypass whose
+    /// Of an image it is a byte of the image, or its length. Of a change, a bypass or a print whose
     /// expression is wrong ([`Number::EXPRESSION_WRONG`]) it is a byte of the first expression, or
     /// 256 more than a byte of the second. Of a text it is a byte of the text.
     pub const fn place(self) -> u64 {
@@ -172,5 +172,5 @@ numbers! {
     ILL_FORMED = 17, "state not well formed";
     TEXT_WRONG = 18, "text wrong";
     TEXT_LONG = 19, "text makes over 48 bytes";
-    BUFFER_SHORT = 20, "output buffer under 48 bytes";
+    BUFFER_SHORT = 20, "output buffer too short";
 }

@@ -1,5 +1,5 @@
 //! The proved gate, for safe Rust to call: [`ParkBox`], a policy and its sessions that a program
-//! keeps and asks; the texts of expressions turned to bytes; and whole inputs replayed.
+//! keeps and asks; the texts of expressions turned to bytes, and back; and whole inputs replayed.
 //!
 //! Nothing is decided here: every answer comes from the proved library, which is linked as
 //! `libloafawning.a`. All `unsafe` stands in the module `linked`.
@@ -17,6 +17,9 @@ use std::fmt;
 
 /// The most bytes that an expression has, and the least room for a text's.
 pub const MOST_BYTES: usize = 48;
+
+/// The most bytes that a text has, and the least room for a print ([`ParkBox::print`]).
+pub const MOST_TEXT: usize = 512;
 
 /// As many bytes of stack as a thread has to have for [`turn_text`] and [`text_to_bytes`]
 /// (include/gate.h, "The stack").

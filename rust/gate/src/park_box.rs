@@ -2,6 +2,7 @@
 
 use crate::answer::{NotServed, Number, Refusal};
 use crate::linked::{self, Memory, BOX_BYTES};
+use crate::MOST_TEXT;
 use std::fmt;
 
 /// What a session wants to do with a file. A file has a row of conditions for each of these.
@@ -97,7 +98,8 @@ impl Mode {
 /// some way to choose a securon of each term that AND asks for, all of them; OR asks for one side.
 /// Of length 0, it is the empty set; as T1 it is always met, as T2 never. A range may have no securon
 /// at all: in E it asks for nothing, but a T1 that asks for one of it is met by nobody.
-/// [`text_to_bytes`](crate::text_to_bytes) makes the bytes of a text such as `4&10 | 7`.
+/// [`text_to_bytes`](crate::text_to_bytes) makes the bytes of a text such as `4&10 | 7`, and
+/// [`bytes_to_text`](ParkBox::bytes_to_text) makes a text of bytes.
 #[derive(Clone, PartialEq, Eq)]
 pub struct ParkBox(Box<Memory>);
 
@@ -107,10 +109,13 @@ const END: u8 = 2;
 const ASK: u8 = 3;
 const CHANGE: u8 = 4;
 const BYPASS: u8 = 5;
+const PRINT: u8 = 16;
 
-/// The most bytes that a record has room for in one expression, and the longest change or bypass.
+/// The most bytes that a record has room for in one expression, the longest change or bypass, and
+/// the longest print.
 const MOST_IN_RECORD: usize = 255;
 const LONGEST_TWICE: usize = 6 + 2 * MOST_IN_RECORD;
+const LONGEST_PRINT: usize = 2 + MOST_IN_RECORD;
 
 /// The number that the library answers where there is no record; it is none of the table's.
 const NO_RECORD: Number = Number(255);
@@ -242,9 +247,70 @@ impl ParkBox {
         self.twice([BYPASS, slot, file, mode as u8], e, g)
     }
 
+    /// Prints an expression as text to the front of `out`, and gives the text's length. The rest of
+    /// `out` keeps its content, and the box stays as it is. [`bytes_to_text`](ParkBox::bytes_to_text)
+    /// is the same with a `String`.
+    ///
+    /// The text has no spaces, and parentheses only where the grouping needs them: AND is `&` and
+    /// binds tighter, OR is `|`, both group to the left, and a range is `s[i..j]`. So
+    /// [`text_to_bytes`](crate::text_to_bytes) reads the same bytes again from it. An expression of
+    /// length 0 prints nothing.
+    ///
+    /// The expression has to be in order for the policy that the box holds, as T1 or T2 has to be: its
+    /// securons and levels are those of the tree, and OR may stand in it. `out` has to have room for
+    /// 512 bytes ([`MOST_TEXT`](crate::MOST_TEXT)), however short the text is.
+    ///
+    /// # Errors
+    /// The first that applies of 17 (state not well formed), 6 (expression wrong) and 20 (output
+    /// buffer too short). The place of 6 is the first byte that can't stand, or the length of an
+    /// expression that is not whole, or 48 where it has over 48 bytes. `out` is as it was.
+    ///
+    /// ```
+    /// use gate::{Number, ParkBox, MOST_TEXT};
+    ///
+    /// let mut park = ParkBox::fresh();
+    /// park.load(b"SPT\x01\x00\x04\x00\x00\x01\x00\x00")?; // four securons, no role, no file
+    /// let mut out = [b'.'; MOST_TEXT];
+    /// let length = park.print(&[3, 1, 1, 3, 1, 2, 1, 3], &mut out)?;
+    /// assert_eq!(&out[..length], b"1&(2&3)");
+    /// assert_eq!(out[length], b'.');
+    ///
+    /// let refusal = park.print(&[1, 4], &mut out).unwrap_err();
+    /// assert_eq!(refusal.to_string(), "6 1 (expression wrong)"); // there is no securon 4
+    /// let refusal = park.print(&[1, 3], &mut out[1..]).unwrap_err();
+    /// assert_eq!(refusal.number(), Number::BUFFER_SHORT);
+    /// # Ok::<(), gate::Refusal>(())
+    /// ```
+    pub fn print(&mut self, expression: &[u8], out: &mut [u8]) -> Result<usize, Refusal> {
+        let mut record = [0; LONGEST_PRINT];
+        record[0] = PRINT;
+        let end = put(&mut record, 1, expression);
+        let place = Refusal::unpack(linked::serve(&mut self.0, &record[..end], out))?;
+        Ok(place as usize)
+    }
+
+    /// The text of an expression, as [`print`](ParkBox::print) gives it.
+    ///
+    /// # Errors
+    /// Those of [`print`](ParkBox::print), but for 20: there is room enough.
+    ///
+    /// ```
+    /// let mut park = gate::ParkBox::fresh();
+    /// park.load(b"SPT\x01\x00\x04\x00\x00\x01\x00\x00")?; // levels 0 to 2
+    /// let bytes = gate::text_to_bytes(b" ( 1 | 2[0..1] ) & 3 ")?;
+    /// assert_eq!(park.bytes_to_text(&bytes)?, "(1|2[0..1])&3");
+    /// assert_eq!(park.bytes_to_text(&[])?, "");
+    /// # Ok::<(), gate::Refusal>(())
+    /// ```
+    pub fn bytes_to_text(&mut self, expression: &[u8]) -> Result<String, Refusal> {
+        let mut out = [0; MOST_TEXT];
+        let length = self.print(expression, &mut out)?;
+        Ok(out[..length].iter().copied().map(char::from).collect())
+    }
+
     /// Serves one record: one call in bytes, for who has it so from elsewhere. Gives how many bytes
-    /// the call gave out at the front of `out`; no record of this version gives any, and `out` is as
-    /// it was.
+    /// the call gave out at the front of `out`; the rest of `out` is as it was, and all of it where
+    /// the call was refused. Only a print gives bytes out.
     ///
     /// | Record | Call |
     /// |---|---|
@@ -254,6 +320,7 @@ impl ParkBox {
     /// | `04` slot file mode, T1, T2 | [`change`](ParkBox::change) |
     /// | `05` slot file mode, E, G | [`bypass`](ParkBox::bypass) |
     /// | `06` length, image | [`load`](ParkBox::load) |
+    /// | `10` expression | [`print`](ParkBox::print) |
     ///
     /// A slot, a role, a file and a mode (0 Read to 4 Change Protection) are a byte each. Before an
     /// expression stands a byte with its length. The length of an image has two bytes, the low one
@@ -306,20 +373,26 @@ impl ParkBox {
         Refusal::unpack(linked::serve(&mut self.0, record, &mut [])).map(drop)
     }
 
-    /// A record with two expressions. Of one that is too long for a record its first 255 bytes are
-    /// handed on: over 48 bytes it is refused by its length alone, with the same place.
+    /// A record with two expressions.
     fn twice(&mut self, front: [u8; 4], first: &[u8], second: &[u8]) -> Result<(), Refusal> {
         let mut record = [0; LONGEST_TWICE];
         record[..front.len()].copy_from_slice(&front);
         let mut end = front.len();
         for expression in [first, second] {
-            let length = expression.len().min(MOST_IN_RECORD);
-            record[end] = length as u8;
-            record[end + 1..][..length].copy_from_slice(&expression[..length]);
-            end += 1 + length;
+            end = put(&mut record, end, expression);
         }
         self.call(&record[..end])
     }
+}
+
+/// Puts an expression at a place of a record, and gives the place after it. Of one that is too long
+/// for a record its first 255 bytes are handed on: over 48 bytes it is refused by its length alone,
+/// with the same place.
+fn put(record: &mut [u8], at: usize, expression: &[u8]) -> usize {
+    let length = expression.len().min(MOST_IN_RECORD);
+    record[at] = length as u8;
+    record[at + 1..][..length].copy_from_slice(&expression[..length]);
+    at + 1 + length
 }
 
 /// The fresh box.

@@ -42,7 +42,7 @@ fn modes_and_codes_are_those_of_the_header() {
     let defined = named(header, "#define GATE_", " ");
     let park_box = include_str!("../src/park_box.rs");
     let codes = named(park_box, "const ", ": u8 = ");
-    assert_eq!(codes.len(), 5);
+    assert_eq!(codes.len(), 6);
     for code in codes {
         assert!(defined.contains(&code), "{code:?}");
     }

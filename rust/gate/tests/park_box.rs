@@ -162,6 +162,9 @@ fn what_is_no_record_alters_nothing() {
         b"\x06\x09\x00SPT\x01\x00\x01\x00\x00",
         b"\x06\x08\x00SPT\x01\x00\x01\x00\x00\x00",
         &[7, 0],
+        &[16],
+        &[16, 1],
+        &[16, 0, 0],
         &[255],
     ] {
         let served = park.serve(record, &mut out);

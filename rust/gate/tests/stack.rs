@@ -22,6 +22,8 @@ fn the_header_states_the_same() {
     assert_eq!(stated("GATE_REPLAY_STACK"), REPLAY_STACK);
     assert_eq!(stated("GATE_BOX_STACK"), BOX_STACK);
     assert_eq!(stated("GATE_BOX_SIZE"), ParkBox::BYTES);
+    assert_eq!(stated("GATE_LONGEST_EXPRESSION"), gate::MOST_BYTES);
+    assert_eq!(stated("GATE_LONGEST_TEXT"), gate::MOST_TEXT);
 }
 
 #[test]
@@ -68,7 +70,7 @@ fn a_replay_of_the_longest_image_has_stack_enough() {
 
 #[test]
 fn a_box_with_the_longest_image_has_stack_enough() {
-    fn calls() -> [Result<(), Refusal>; 7] {
+    fn calls() -> [Result<(), Refusal>; 8] {
         let mut park = ParkBox::fresh();
         let expression = expression();
         [
@@ -78,10 +80,11 @@ fn a_box_with_the_longest_image_has_stack_enough() {
             park.ask(0, 31, Mode::Write),
             park.change(0, 31, Mode::Read, &expression, &expression),
             park.bypass(0, 31, Mode::Read, &expression, &expression),
+            park.bytes_to_text(&expression).map(drop),
             park.end(0),
         ]
     }
     let numbers = with_stack(BOX_STACK, calls)
         .map(|answer| answer.map_or_else(|refusal| refusal.number().0, |()| 0));
-    assert_eq!(numbers, [0, 0, 14, 14, 14, 14, 0]);
+    assert_eq!(numbers, [0, 0, 14, 14, 14, 14, 0, 0]);
 }

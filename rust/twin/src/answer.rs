@@ -71,6 +71,6 @@ pub mod number {
     pub const TEXT: u8 = 18;
     /// Text makes over 48 bytes.
     pub const TOO_LONG: u8 = 19;
-    /// Output buffer under 48 bytes.
+    /// Output buffer under 48 bytes; of a print, under 512 (02, [1]).
     pub const BUFFER: u8 = 20;
 }

@@ -82,7 +82,7 @@ impl<'a> Call<'a> {
 }
 
 /// Prints an answer: the number, a space, the place, and a line end.
-pub(crate) fn print(printed: &mut Vec<u8>, answer: Answer) {
+fn print(printed: &mut Vec<u8>, answer: Answer) {
     writeln!(printed, "{} {}", answer.number, answer.place).expect("a vector takes all");
 }
 
@@ -105,7 +105,7 @@ fn numbers<const N: usize>(rest: &mut &[u8]) -> Option<[usize; N]> {
 }
 
 /// A length byte and its bytes, whatever the length says (E2).
-fn expression<'a>(rest: &mut &'a [u8]) -> Option<&'a [u8]> {
+pub(crate) fn expression<'a>(rest: &mut &'a [u8]) -> Option<&'a [u8]> {
     let length = usize::from(byte(rest)?);
     bytes(rest, length)
 }

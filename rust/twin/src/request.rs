@@ -133,7 +133,7 @@ impl State {
     }
 
     /// The tree of a well formed state, else 17.
-    fn tree(&self) -> Result<Tree, Answer> {
+    pub(crate) fn tree(&self) -> Result<Tree, Answer> {
         self.survey().ok_or(Answer::plain(number::ILL_FORMED))
     }
 

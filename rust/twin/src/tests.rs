@@ -6,6 +6,7 @@ mod image;
 mod meaning;
 mod model;
 mod parkbox;
+mod print;
 mod replay;
 mod requests;
 mod text;

@@ -2,6 +2,9 @@
 
 use gate::Mode;
 
+/// The code of a print's record.
+pub const PRINT: u8 = 16;
+
 /// A call.
 #[derive(Clone, Copy)]
 pub enum BoxCall<'a> {
@@ -17,6 +20,8 @@ pub enum BoxCall<'a> {
     Change(u8, u8, Mode, [&'a [u8]; 2]),
     /// bypass: slot, file, mode; E, G.
     Bypass(u8, u8, Mode, [&'a [u8]; 2]),
+    /// print: an expression.
+    Print(&'a [u8]),
     /// Bytes that may be a record.
     Record(&'a [u8]),
 }
@@ -36,6 +41,7 @@ impl<'a> BoxCall<'a> {
                 mode(asked).map(|mode| BoxCall::Bypass(slot, file, mode, two(rest)))
             }
             [6, _, _, ref image @ ..] => Some(BoxCall::Load(image)),
+            [PRINT, _, ref expression @ ..] => Some(BoxCall::Print(expression)),
             _ => None,
         };
         typed.unwrap_or(BoxCall::Record(record))
@@ -51,6 +57,11 @@ impl<'a> BoxCall<'a> {
             BoxCall::Ask(slot, file, mode) => vec![3, slot, file, mode as u8],
             BoxCall::Change(slot, file, mode, both) => twice([4, slot, file, mode as u8], both),
             BoxCall::Bypass(slot, file, mode, both) => twice([5, slot, file, mode as u8], both),
+            BoxCall::Print(expression) => {
+                let mut record = vec![PRINT];
+                push(&mut record, expression);
+                record
+            }
             BoxCall::Record(record) => record.to_vec(),
         }
     }
@@ -68,11 +79,16 @@ pub fn load(image: &[u8]) -> Vec<u8> {
 fn twice(front: [u8; 4], both: [&[u8]; 2]) -> Vec<u8> {
     let mut record = front.to_vec();
     for expression in both {
-        let length = expression.len().min(255);
-        record.push(length as u8);
-        record.extend(&expression[..length]);
+        push(&mut record, expression);
     }
     record
+}
+
+/// A length byte and its bytes, cut where a length byte can't say how many there are.
+fn push(record: &mut Vec<u8>, expression: &[u8]) {
+    let length = expression.len().min(255);
+    record.push(length as u8);
+    record.extend(&expression[..length]);
 }
 
 /// The two expressions at a whole record's end.
@@ -93,6 +109,7 @@ pub fn whole(bytes: &[u8]) -> Option<usize> {
             second + 1 + at(second)?
         }
         6 => 3 + at(1)? + 256 * at(2)?,
+        code if code == usize::from(PRINT) => 2 + at(1)?,
         _ => return None,
     };
     (length <= bytes.len()).then_some(length)

@@ -1,7 +1,8 @@
 //! A box and the twin's state, kept side by side.
 
-use super::box_call::BoxCall;
+use super::box_call::{BoxCall, PRINT};
 use super::layout::{self, Bytes};
+use super::prints::{self, PRINT_ROOM};
 use super::tally::BoxTally;
 use crate::runner::hex;
 use gate::{Mode, NotServed, ParkBox, Refusal};
@@ -10,7 +11,11 @@ use twin::State;
 /// A byte that fills lent room before a call.
 const FILL: u8 = 0xa5;
 
-/// The room that is lent with a record, of which nothing is altered.
+/// The most room that is lent, and as many bytes after it that nobody may alter.
+pub const MOST_ROOM: usize = 600;
+const AFTER: usize = 16;
+
+/// The most room that is lent with a record that gives nothing out.
 const ROOM: usize = 32;
 
 /// The number that says that bytes are no record.
@@ -33,7 +38,7 @@ pub trait Kept {
     fn of(bytes: &Bytes) -> Self;
     /// The bytes of the box.
     fn bytes(&self) -> &Bytes;
-    /// Makes a call; a record is lent this room.
+    /// Makes a call; a record and a print are lent this room.
     fn make(&mut self, call: BoxCall, out: &mut [u8]) -> Said;
 }
 
@@ -59,6 +64,10 @@ impl Kept for ParkBox {
             BoxCall::Ask(slot, file, mode) => self.ask(slot, file, mode),
             BoxCall::Change(slot, file, mode, [t1, t2]) => self.change(slot, file, mode, t1, t2),
             BoxCall::Bypass(slot, file, mode, [e, g]) => self.bypass(slot, file, mode, e, g),
+            BoxCall::Print(expression) => match self.print(expression, out) {
+                Ok(length) => return said(0, length as u64),
+                Err(refusal) => Err(refusal),
+            },
             BoxCall::Record(record) => match self.serve(record, out) {
                 Ok(given) => return said(0, given as u64),
                 Err(NotServed::NoRecord) => return said(NO_RECORD, 0),
@@ -74,8 +83,8 @@ fn said(number: u8, place: u64) -> Said {
     Said { number, place }
 }
 
-/// What the twin answers.
-pub fn expected(state: &mut State, call: BoxCall) -> Said {
+/// What the twin answers; what it gives out goes to the front of `out`.
+pub fn expected(state: &mut State, call: BoxCall, out: &mut [u8]) -> Said {
     let n = usize::from;
     let row = |slot, file, mode| (n(slot), n(file), mode as usize);
     let answer = match call {
@@ -94,7 +103,8 @@ pub fn expected(state: &mut State, call: BoxCall) -> Said {
             let (slot, file, mode) = row(slot, file, mode);
             Some(state.bypass(slot, file, mode, e, g))
         }
-        BoxCall::Record(record) => twin::serve(state, record),
+        BoxCall::Print(expression) => Some(state.print(expression, out)),
+        BoxCall::Record(record) => twin::serve(state, record, out).map(|served| served.answer),
     };
     answer.map_or(said(NO_RECORD, 0), |answer| {
         said(answer.number, answer.place as u64)
@@ -103,12 +113,14 @@ pub fn expected(state: &mut State, call: BoxCall) -> Said {
 
 /// A box and the twin's state, what the box's bytes have to be, and the records that led there: of
 /// the calls that altered it, from the last load on. If `made`, no call made what it was before them.
+/// What the last call gave out is kept too.
 pub struct Pair<B> {
     kept: B,
     twin: Box<State>,
     bytes: Box<Bytes>,
     records: Vec<u8>,
     made: bool,
+    given: Vec<u8>,
 }
 
 impl<B: Kept> Pair<B> {
@@ -120,6 +132,7 @@ impl<B: Kept> Pair<B> {
             bytes: Box::new([0; ParkBox::BYTES]),
             records: Vec::new(),
             made: false,
+            given: Vec::new(),
         };
         layout::write(&pair.twin, &mut pair.bytes);
         pair
@@ -133,6 +146,7 @@ impl<B: Kept> Pair<B> {
             bytes: Box::new(*bytes),
             records: Vec::new(),
             made: true,
+            given: Vec::new(),
         }
     }
 
@@ -141,39 +155,92 @@ impl<B: Kept> Pair<B> {
         &self.bytes
     }
 
+    /// What the last call gave out.
+    pub fn given(&self) -> &[u8] {
+        &self.given
+    }
+
     /// Whether the twin says that the state is well formed.
     pub fn well_formed(&self) -> bool {
         twin::well_formed(&self.twin)
     }
 
-    /// Makes a call on both: the answers, the bytes of the box and the lent room are as they have to
-    /// be.
+    /// Makes a call on both, with room enough.
     pub fn call(&mut self, call: &BoxCall, tally: &mut BoxTally) -> Result<Said, String> {
         let record = call.record();
-        let mut out = [FILL; ROOM];
-        let room = record.len() % (ROOM + 1);
+        let room = match record.first() {
+            Some(&PRINT) => PRINT_ROOM,
+            _ => record.len() % (ROOM + 1),
+        };
+        self.call_in(call, room, tally)
+    }
+
+    /// Makes a call on both with so much room: the answers, the bytes of the box and the lent room
+    /// are as they have to be, and so is what is printed.
+    pub fn call_in(
+        &mut self,
+        call: &BoxCall,
+        room: usize,
+        tally: &mut BoxTally,
+    ) -> Result<Said, String> {
+        let record = call.record();
+        let mut out = [FILL; MOST_ROOM + AFTER];
+        let mut twins = out;
         let given = self.kept.make(*call, &mut out[..room]);
-        let expected = expected(&mut self.twin, *call);
-        let altered = expected.number == 0 && record.first() != Some(&3);
+        let expected = expected(&mut self.twin, *call, &mut twins[..room]);
+        let altered = expected.number == 0 && !matches!(record.first(), Some(&(3 | PRINT)));
         if altered {
             layout::write(&self.twin, &mut self.bytes);
         }
         let why = if given != expected {
             Some("the answers differ".to_string())
-        } else if out != [FILL; ROOM] {
-            Some(format!("the room of {room} bytes was altered"))
+        } else if out != twins {
+            let both = out.iter().zip(&twins);
+            let same = both.take_while(|(ours, theirs)| ours == theirs).count();
+            Some(format!("the room of {room} bytes differs at {same}"))
         } else {
             self.differs()
         };
+        let why = why.or_else(|| self.misprints(call, &record, given, &out));
         if let Some(why) = why {
-            return Err(self.report(&why, &record, given, expected));
+            return Err(self.report(&why, &record, room, given, expected));
         }
-        let counted = tally.count(call, &record, given);
-        counted.map_err(|why| self.report(&why, &record, given, expected))?;
+        let counted = tally.count(call, &record, room, given);
+        counted.map_err(|why| self.report(&why, &record, room, given, expected))?;
         if altered {
             self.went_on(&record);
         }
         Ok(given)
+    }
+
+    /// What is wrong with a granted print, and with a print of what is read from it; keeps what was
+    /// given out.
+    fn misprints(
+        &mut self,
+        call: &BoxCall,
+        record: &[u8],
+        said: Said,
+        out: &[u8],
+    ) -> Option<String> {
+        self.given.clear();
+        let expression = match *call {
+            BoxCall::Print(expression) => expression,
+            BoxCall::Record([PRINT, _, expression @ ..]) => expression,
+            _ => return None,
+        };
+        if said.number != 0 {
+            return None;
+        }
+        let text = &out[..said.place as usize];
+        self.given.extend(text);
+        let why = prints::wrong(expression, text);
+        if why.is_some() {
+            return why;
+        }
+        let mut again = [FILL; PRINT_ROOM];
+        let reprinted = self.kept.make(BoxCall::Record(record), &mut again);
+        let same = reprinted == said && again[..text.len()] == *text;
+        (!same).then(|| format!("printed again it is {reprinted:?}"))
     }
 
     /// Notes the record of a call that altered the box; a load replaces all.
@@ -199,13 +266,13 @@ impl<B: Kept> Pair<B> {
     }
 
     /// A difference in words, with the records that lead to it.
-    fn report(&self, why: &str, record: &[u8], given: Said, expected: Said) -> String {
+    fn report(&self, why: &str, record: &[u8], room: usize, given: Said, expected: Said) -> String {
         let from = match self.made {
             true => "a box that no call made, and then",
             false => "a fresh box, and then, which --records takes",
         };
         let (record, records) = (hex(record), hex(&self.records));
-        format!("{why}\nlibrary: {given:?}\ntwin:    {expected:?}\n{from}: {records}\n{record}")
+        format!("{why}\nlibrary: {given:?}\ntwin:    {expected:?}\nroom:    {room}\n{from}: {records}\n{record}")
     }
 
     /// Asks every slot, file and mode, and one more of each.

@@ -1,8 +1,9 @@
 //! The parts of a run on boxes that are kept: each round of a part makes its calls from its own seed.
 
-use super::box_call::{load, BoxCall};
+use super::box_call::{load, BoxCall, PRINT};
 use super::damage::{damage, DAMAGES};
-use super::pair::{Kept, Pair};
+use super::pair::{Kept, Pair, MOST_ROOM};
+use super::prints::PRINT_ROOM;
 use super::tally::BoxTally;
 use crate::draw::Draw;
 use crate::parts::small;
@@ -15,7 +16,7 @@ use twin::image::Policy;
 type Round = fn(&mut Draw, &mut BoxTally) -> Result<(), String>;
 
 /// A part's name, its rounds in a short run, and what a round does.
-pub fn parts<B: Kept>() -> [(&'static str, usize, Round); 9] {
+pub fn parts<B: Kept>() -> [(&'static str, usize, Round); 10] {
     [
         ("a long life of a box", 22, life::<B>),
         ("all asked after each granted call", 10, all_asked::<B>),
@@ -23,6 +24,7 @@ pub fn parts<B: Kept>() -> [(&'static str, usize, Round); 9] {
         ("the longest images over a box", 3, longest_images::<B>),
         ("wrong expressions on a box", 120, wrong_expressions::<B>),
         ("expressions over 255 bytes", 60, long_expressions::<B>),
+        ("prints", 300, prints::<B>),
         ("what is no record", 60, no_records::<B>),
         ("damaged boxes", 1500, damaged_box::<B>),
         ("any memory as a box", 40, any_memory::<B>),
@@ -40,7 +42,22 @@ fn served<B: Kept>(
         true => BoxCall::typed(record),
         false => BoxCall::Record(record),
     };
-    Ok(pair.call(&call, tally)?.number == 0)
+    let said = match record.first() {
+        Some(&PRINT) => pair.call_in(&call, room(draw), tally)?,
+        _ => pair.call(&call, tally)?,
+    };
+    Ok(said.number == 0)
+}
+
+/// The room for a print, mostly enough.
+fn room(draw: &mut Draw) -> usize {
+    match draw.below(12) {
+        0 => draw.below(MOST_ROOM + 1),
+        1 => PRINT_ROOM - 1,
+        2 => PRINT_ROOM + 1 + draw.below(MOST_ROOM - PRINT_ROOM),
+        3 => 0,
+        _ => PRINT_ROOM,
+    }
 }
 
 /// A policy in order is loaded.
@@ -66,7 +83,7 @@ fn life<B: Kept>(draw: &mut Draw, tally: &mut BoxTally) -> Result<(), String> {
         if load > 0 {
             tally.met("a load over a state with a policy")?;
         }
-        let drawn = For::policy(&policy);
+        let drawn = For::kept(&policy);
         let slots = draw.pick(&[4, 16]);
         for record in drawn.begins(draw, slots) {
             served(draw, &mut pair, &record, tally)?;
@@ -102,7 +119,7 @@ fn all_asked<B: Kept>(draw: &mut Draw, tally: &mut BoxTally) -> Result<(), Strin
     let policy = small(draw);
     loaded(draw, &mut pair, &policy, tally)?;
     pair.ask_all(tally)?;
-    let drawn = For::policy(&policy);
+    let drawn = For::kept(&policy);
     let mut records = drawn.begins(draw, 16);
     records.extend((0..12).map(|_| drawn.record(draw)));
     for record in records {
@@ -153,7 +170,7 @@ fn longest_images<B: Kept>(draw: &mut Draw, tally: &mut BoxTally) -> Result<(), 
     let policy = policies::policy(draw, 64, 32, 32);
     let image = policy.to_image();
     loaded(draw, &mut pair, &policy, tally)?;
-    let drawn = For::policy(&policy);
+    let drawn = For::kept(&policy);
     for _ in 0..30 {
         let mut altered = image.clone();
         let at = draw.below(image.len());
@@ -181,7 +198,7 @@ fn altering<B: Kept>(draw: &mut Draw, tally: &mut BoxTally) -> Result<(Pair<B>, 
     let mut pair = Pair::fresh();
     loaded(draw, &mut pair, &policy, tally)?;
     served(draw, &mut pair, &[1, 0, 0], tally)?;
-    Ok((pair, For::policy(&policy)))
+    Ok((pair, For::kept(&policy)))
 }
 
 /// Changes and bypasses with expressions damaged at every place, by a role that may alter.
@@ -204,6 +221,7 @@ fn long_expressions<B: Kept>(draw: &mut Draw, tally: &mut BoxTally) -> Result<()
         tally.met("a first expression over 255 bytes")?;
         pair.call(&BoxCall::Change(slot, 0, mode, [&long, short]), tally)?;
         pair.call(&BoxCall::Bypass(slot, 0, mode, [&long, &long]), tally)?;
+        pair.call_in(&BoxCall::Print(&long), room(draw), tally)?;
         tally.met("a second expression over 255 bytes")?;
         pair.call(&BoxCall::Change(slot, 0, mode, [short, &long]), tally)?;
         pair.call(&BoxCall::Bypass(slot, 0, mode, [short, &long]), tally)?;
@@ -211,10 +229,43 @@ fn long_expressions<B: Kept>(draw: &mut Draw, tally: &mut BoxTally) -> Result<()
     Ok(())
 }
 
+/// Prints of every sort over a tree of any size, with every room; one damaged at every place; and
+/// the longest of all.
+fn prints<B: Kept>(draw: &mut Draw, tally: &mut BoxTally) -> Result<(), String> {
+    let mut pair = Pair::<B>::fresh();
+    let n = 1 + draw.below(64);
+    let policy = policies::policy(draw, n, 1, 1);
+    loaded(draw, &mut pair, &policy, tally)?;
+    let drawn = For::kept(&policy);
+    for _ in 0..40 {
+        let record = drawn.record_of(draw, PRINT);
+        served(draw, &mut pair, &record, tally)?;
+    }
+    let good = drawn.record_of(draw, PRINT);
+    for at in 2..good.len() {
+        let mut bad = good.clone();
+        bad[at] = draw.pick(&[0, 1, 2, 3, 4, 5, 63, 64, 255, bad[at] ^ 1, bad[at] ^ 2]);
+        served(draw, &mut pair, &bad, tally)?;
+        served(draw, &mut pair, &cut(&good, at), tally)?;
+    }
+    loaded(draw, &mut pair, &policies::line(), tally)?;
+    let longest = policies::longest_print(draw.pick(&[3, 4]));
+    pair.call_in(&BoxCall::Print(&longest), PRINT_ROOM, tally)?;
+    let record = BoxCall::Print(&longest).record();
+    served(draw, &mut pair, &record, tally).map(drop)
+}
+
+/// A print's record with its expression cut at a place of the record.
+fn cut(record: &[u8], at: usize) -> Vec<u8> {
+    let mut record = record[..at].to_vec();
+    record[1] = (at - 2) as u8;
+    record
+}
+
 /// Records cut at every length, with a byte after them, with an unknown code; and drawn bytes.
 fn no_records<B: Kept>(draw: &mut Draw, tally: &mut BoxTally) -> Result<(), String> {
     let (mut pair, policy) = begun::<B>(draw, tally)?;
-    let drawn = For::policy(&policy);
+    let drawn = For::kept(&policy);
     let mut records: Vec<Vec<u8>> = (0..8).map(|_| drawn.record(draw)).collect();
     records.push(load(b"SPT\x01\x00\x01\x00\x00"));
     for record in records {
@@ -227,14 +278,14 @@ fn no_records<B: Kept>(draw: &mut Draw, tally: &mut BoxTally) -> Result<(), Stri
         longer.extend(&record);
         pair.call(&BoxCall::Record(&longer), tally)?;
         let mut unknown = record;
-        unknown[0] = draw.pick(&[0, 7, 8, 9, 10, 11, 16, 17, 18, 19, 255]);
+        unknown[0] = draw.pick(&[0, 7, 8, 9, 11, 17, 18, 19, 255]);
         pair.call(&BoxCall::Record(&unknown), tally)?;
     }
     for _ in 0..40 {
         let count = draw.below(12);
         let mut any = draw.bytes(count);
         if let Some(code) = any.first_mut().filter(|_| !draw.one_in(4)) {
-            *code = draw.byte(8);
+            *code = draw.pick(&[0, 1, 2, 3, 4, 5, 6, 7, PRINT]);
         }
         pair.call(&BoxCall::Record(&any), tally)?;
     }
@@ -249,7 +300,7 @@ fn damaged_box<B: Kept>(draw: &mut Draw, tally: &mut BoxTally) -> Result<(), Str
     damage(draw, &mut bytes, kind);
     let mut pair = Pair::<B>::of(&bytes);
     tally.damaged(kind, pair.well_formed());
-    on_made(draw, &mut pair, &For::policy(&policy), tally)
+    on_made(draw, &mut pair, &For::kept(&policy), tally)
 }
 
 /// Memory that is all one byte, or drawn, or a box with all of one part drawn.
@@ -263,7 +314,7 @@ fn any_memory<B: Kept>(draw: &mut Draw, tally: &mut BoxTally) -> Result<(), Stri
         tally.met("memory all of one byte")?;
     }
     let mut pair = Pair::<B>::of(&bytes);
-    on_made(draw, &mut pair, &For::policy(&policy), tally)
+    on_made(draw, &mut pair, &For::kept(&policy), tally)
 }
 
 /// All kinds of calls on a box that no call made.
@@ -274,9 +325,10 @@ fn on_made<B: Kept>(
     tally: &mut BoxTally,
 ) -> Result<(), String> {
     let ill = !pair.well_formed();
-    for code in 1..6 {
+    for code in [1, 2, 3, 4, 5, PRINT] {
         let record = drawn.record_of(draw, code);
-        let said = pair.call(&BoxCall::typed(&record), tally)?;
+        let room = draw.below(MOST_ROOM + 1);
+        let said = pair.call_in(&BoxCall::typed(&record), room, tally)?;
         if ill && said.number != 17 {
             return Err(format!("{said:?} of a state not well formed"));
         }

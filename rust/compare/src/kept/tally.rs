@@ -1,24 +1,27 @@
 //! How often calls on boxes gave each number and each kind of place, and what else had to be met.
 
-use super::box_call::{whole, BoxCall};
+use super::box_call::{whole, BoxCall, PRINT};
 use super::damage::DAMAGES;
 use super::pair::{Said, NO_RECORD};
+use super::prints;
 use crate::tally::{load_kind, request_kind, KINDS};
 use std::collections::BTreeMap;
 use std::fmt;
 
 /// The calls, a column each, with the numbers that each can give (01, "Order").
-const COLUMNS: [(&str, &[u8]); 7] = [
+const COLUMNS: [(&str, &[u8]); 8] = [
     ("load", &[0, 1, 2, 3, 4, 5, 6, 7]),
     ("begin", &[0, 8, 10, 11, 17]),
     ("end", &[0, 8, 9, 17]),
     ("ask", &[0, 8, 9, 12, 13, 14, 15, 17]),
     ("change", &[0, 6, 8, 9, 12, 13, 14, 17]),
     ("bypass", &[0, 6, 8, 9, 12, 13, 14, 16, 17]),
+    ("print", &[0, 6, 17, 20]),
     ("none", &[NO_RECORD]),
 ];
 const ASK: usize = 3;
-const NONE: usize = 6;
+const PRINTS: usize = 6;
+const NONE: usize = 7;
 
 /// The columns by the way that the call was made: with typed arguments, or as a record.
 const WAYS: [&str; 2] = ["typed", "record"];
@@ -43,7 +46,7 @@ const BESIDES: [&str; 14] = [
 
 /// What was given so far.
 pub struct BoxTally {
-    numbers: [[[u64; 256]; 2]; 7],
+    numbers: [[[u64; 256]; 2]; 8],
     kinds: BTreeMap<String, u64>,
     damages: [[u64; 2]; DAMAGES.len()],
 }
@@ -51,11 +54,9 @@ pub struct BoxTally {
 impl BoxTally {
     /// Nothing yet.
     pub fn new() -> BoxTally {
-        let places = KINDS.iter().filter(|kind| of_box(kind));
-        let kinds = places.chain(&BESIDES);
         BoxTally {
-            numbers: [[[0; 256]; 2]; 7],
-            kinds: kinds.map(|kind| (kind.to_string(), 0)).collect(),
+            numbers: [[[0; 256]; 2]; 8],
+            kinds: all_kinds().map(|kind| (kind.to_string(), 0)).collect(),
             damages: [[0; 2]; DAMAGES.len()],
         }
     }
@@ -77,11 +78,18 @@ impl BoxTally {
         self.damages[kind][usize::from(!well_formed)] += 1;
     }
 
-    /// Counts an answer.
-    pub fn count(&mut self, call: &BoxCall, record: &[u8], said: Said) -> Result<(), String> {
+    /// Counts an answer of a call with so much room.
+    pub fn count(
+        &mut self,
+        call: &BoxCall,
+        record: &[u8],
+        room: usize,
+        said: Said,
+    ) -> Result<(), String> {
         let raw = matches!(call, BoxCall::Record(_));
-        let column = match said.number {
-            NO_RECORD => NONE,
+        let column = match (said.number, record) {
+            (NO_RECORD, _) => NONE,
+            (_, [PRINT, ..]) => PRINTS,
             _ => usize::from(record[0] % 6),
         };
         let (name, can) = COLUMNS[column];
@@ -89,11 +97,30 @@ impl BoxTally {
             return Err(format!("no answer of {name}"));
         }
         self.numbers[column][usize::from(raw)][usize::from(said.number)] += 1;
+        if column == PRINTS {
+            return self.print(call, record, room, said);
+        }
         match self.kind(call, record, said) {
             Some(kind) => self.met(&kind),
             None if said.place == 0 => Ok(()),
             None => Err("a place where none is named".to_string()),
         }
+    }
+
+    /// Counts the kinds of a print.
+    fn print(
+        &mut self,
+        call: &BoxCall,
+        record: &[u8],
+        room: usize,
+        said: Said,
+    ) -> Result<(), String> {
+        let expression = match *call {
+            BoxCall::Print(expression) => expression,
+            _ => &record[2..],
+        };
+        let mut kinds = prints::kinds(expression, room, said)?.into_iter();
+        kinds.try_for_each(|kind| self.met(kind))
     }
 
     /// The kind of an answer's place, or of what is no record.
@@ -152,16 +179,18 @@ impl BoxTally {
     }
 }
 
-/// Whether a kind of place can be met on a box.
-fn of_box(kind: &str) -> bool {
-    kind.starts_with("load: ") || kind.starts_with("request: ")
+/// All that has to be met on boxes: the kinds of place that can be, the kinds of prints, and the rest.
+fn all_kinds() -> impl Iterator<Item = &'static str> {
+    let of_box = |kind: &&str| kind.starts_with("load: ") || kind.starts_with("request: ");
+    let places = KINDS.into_iter().filter(of_box);
+    places.chain(prints::all_kinds()).chain(BESIDES)
 }
 
 /// Why bytes are no record.
 fn none_kind(record: &[u8]) -> &'static str {
     match record {
         [] => "nothing at all",
-        [0 | 7..=255, ..] => "an unknown code",
+        [code, ..] if !(1..=6).contains(code) && *code != PRINT => "an unknown code",
         _ if whole(record).is_some() => "bytes after a whole one",
         _ => "cut off",
     }
@@ -171,9 +200,9 @@ impl fmt::Display for BoxTally {
     fn fmt(&self, f: &mut fmt::Formatter<'_>) -> fmt::Result {
         let names = COLUMNS.map(|(name, _)| name.to_string());
         writeln!(f, "{:>6} {}", "number", row(names))?;
-        let ways = [(); 7].map(|()| WAYS.join("/"));
+        let ways = [(); 8].map(|()| WAYS.join("/"));
         writeln!(f, "{:>6} {}", "", row(ways))?;
-        for number in (0..=17).chain([NO_RECORD]) {
+        for number in (0..=17).chain([20, NO_RECORD]) {
             let cell = |column: usize| match COLUMNS[column].1.contains(&number) {
                 true => {
                     let [typed, raw] = [0, 1].map(|way| self.numbers[column][way]);
@@ -184,8 +213,8 @@ impl fmt::Display for BoxTally {
             };
             writeln!(f, "{number:>6} {}", row(std::array::from_fn(cell)))?;
         }
-        for kind in KINDS.iter().filter(|kind| of_box(kind)).chain(&BESIDES) {
-            writeln!(f, "{:>9}  {kind}", self.kinds[*kind])?;
+        for kind in all_kinds() {
+            writeln!(f, "{:>9}  {kind}", self.kinds[kind])?;
         }
         writeln!(f, "{:>9} {:>9}", "in order", "17")?;
         for (kind, [well, ill]) in DAMAGES.iter().zip(self.damages) {
@@ -200,6 +229,6 @@ impl fmt::Display for BoxTally {
 }
 
 /// A row of the table.
-fn row(cells: [String; 7]) -> String {
+fn row(cells: [String; 8]) -> String {
     cells.map(|cell| format!("{cell:>14}")).concat()
 }

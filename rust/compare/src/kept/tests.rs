@@ -1,8 +1,9 @@
 //! That differences on boxes are found: the twin as a box, wrong in one way each.
 
-use super::box_call::{load, BoxCall};
+use super::box_call::{load, BoxCall, PRINT};
 use super::layout::{self, Bytes};
 use super::pair::{expected, Kept, Pair, Said};
+use super::prints;
 use super::tally::BoxTally;
 use super::{all_parts, PART};
 use crate::draw::Draw;
@@ -57,7 +58,7 @@ macro_rules! wrong {
 impl TwinBox {
     fn make(&mut self, call: BoxCall, out: &mut [u8]) -> Said {
         let before = self.bytes.clone();
-        let mut said = expected(&mut self.state, call);
+        let mut said = expected(&mut self.state, call, out);
         if said.number == 0 {
             layout::write(&self.state, &mut self.bytes);
         }
@@ -81,7 +82,10 @@ fn nothing_is_met_without_a_call() {
         "end, record, never gave 17",
         "none, record, never gave 255",
         "never met: load: 5 at a parent",
+        "print, typed, never gave 20",
+        "print, record, never gave 17",
         "never met: no record: cut off",
+        "never met: print: OR under AND, on its right",
         "a parent of the root: 0 well formed, 0 not",
     ] {
         assert!(missing.contains(&never.to_string()), "{never}");
@@ -174,7 +178,107 @@ fn room_that_is_written_is_found() {
             *byte = 0;
         }
     });
-    assert!(found::<Writing>().contains("bytes was altered"));
+    assert!(found::<Writing>().contains("bytes differs at"));
+}
+
+/// Whether a call is a print, with typed arguments or as a record.
+fn is_print(call: BoxCall) -> bool {
+    matches!(call, BoxCall::Print(_) | BoxCall::Record([PRINT, _, ..]))
+}
+
+#[test]
+fn a_refused_print_that_writes_is_found() {
+    wrong!(Filling, |_, said, _, _, out| {
+        if said.number == 20 && !out.is_empty() {
+            out[0] = b'0';
+        }
+    });
+    assert!(found::<Filling>().contains("bytes differs at 0"));
+}
+
+#[test]
+fn another_text_is_found() {
+    wrong!(Careless, |call, said, _, _, out| {
+        if said.number == 0 && is_print(call) {
+            let length = said.place as usize;
+            out[..length].iter_mut().for_each(|sign| {
+                *sign = if *sign == b'&' { b'|' } else { *sign };
+            });
+        }
+    });
+    assert!(found::<Careless>().contains("bytes differs at"));
+}
+
+#[test]
+fn a_room_that_is_judged_first_is_found() {
+    wrong!(Hasty, |call, said, _, _, out| {
+        if said.number == 6 && is_print(call) && out.len() < 512 {
+            *said = Said {
+                number: 20,
+                place: 0,
+            };
+        }
+    });
+    assert!(found::<Hasty>().contains("the answers differ"));
+}
+
+#[test]
+fn a_print_that_takes_less_room_is_found() {
+    wrong!(Narrow, |call, said, _, _, out| {
+        if said.number == 20 && is_print(call) && out.len() == 511 {
+            said.number = 0;
+        }
+    });
+    assert!(found::<Narrow>().contains("room:    511"));
+}
+
+#[test]
+fn a_print_that_alters_the_box_is_found() {
+    wrong!(Storing, |call, said, _, bytes, _| {
+        if said.number == 0 && is_print(call) {
+            bytes[layout::slot(3)] ^= 1;
+        }
+    });
+    assert!(found::<Storing>().contains("slot 3, is "));
+}
+
+#[test]
+fn a_text_that_is_no_print_is_found() {
+    let found = |bytes: &[u8], text: &str| prints::wrong(bytes, text.as_bytes());
+    let left = [3, 3, 1, 1, 1, 3, 1, 5];
+    assert_eq!(found(&left, "1&3&5"), None);
+    let why = found(&left, "(1&3)&5").expect("a pair too many");
+    assert!(why.ends_with("does not need: \"1&3&5\""), "{why}");
+    assert!(found(&left, "1&(3&5)").is_some_and(|why| why.contains("other bytes")));
+    assert!(found(&left, "1&3 &5").is_some_and(|why| why.contains("a space")));
+    assert!(found(&left, "1&3&5)").is_some_and(|why| why.contains("other bytes")));
+    assert_eq!(found(&[3, 4, 1, 1, 1, 3, 1, 5], "(1|3)&5"), None);
+    let why = found(&[4, 1, 1, 3, 1, 3, 1, 5], "1|(3&5)").expect("a pair too many");
+    assert!(why.contains("does not need"), "{why}");
+    assert_eq!(found(&[], ""), None);
+}
+
+#[test]
+fn how_operators_nest_is_told() {
+    let granted = Said {
+        number: 0,
+        place: 7,
+    };
+    // 1&(2|3)|4: AND on the left under OR, OR on the right under AND
+    let bytes = [4, 3, 1, 1, 4, 1, 2, 1, 3, 1, 4];
+    let kinds = prints::kinds(&bytes, 512, granted).expect("a print");
+    let expected = [
+        "print: with OR",
+        "print: in 512 bytes of room",
+        "print: AND under OR, on its left",
+        "print: OR under AND, on its right",
+    ];
+    assert_eq!(kinds, expected);
+    let longer = Said {
+        number: 0,
+        place: 118,
+    };
+    assert!(prints::kinds(&bytes, 512, longer).is_err());
 }
 
 #[test]
@@ -243,6 +347,8 @@ fn a_record_and_its_typed_call_are_one() {
         &[3, 1, 2, 4],
         &[4, 1, 2, 3, 2, 1, 7, 1, 9],
         &[5, 1, 2, 0, 0, 0],
+        &[PRINT, 0],
+        &[PRINT, 2, 1, 7],
         &image,
     ] {
         let call = BoxCall::typed(record);
