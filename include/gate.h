@@ -5,10 +5,9 @@
  * answer that the rules leave. Those that are written out here (`static inline`) build records for
  * it and take answers apart; they are tested, and not proved.
  *
- * What the caller owes: a pointer is never null, also where its length is 0, but for the
- * expressions of gate_change, gate_bypass and gate_print and the `out` of gate_print; it has as
- * many bytes as the length beside it says; and nothing that is lent to be written, a box or an
- * `out`, overlaps anything else that is lent.
+ * What the caller owes: a pointer is not null, unless the length beside it is 0; it has as many
+ * bytes as that length says; and nothing that is lent to be written, a box or an `out`, overlaps
+ * anything else that is lent.
  *
  * Threads: the library has no variable of its own and takes no lock. A box is one thread's at a
  * time: whoever shares one locks it, for an ask as well. Calls on different boxes need no lock.
@@ -130,7 +129,7 @@ static inline const char *gate_words(uint32_t number) {
 /*
  * No call uses a heap. A thread whose stack has this many bytes has enough for the call: measured
  * on the worst inputs that were found (a text of 512 opening parentheses needs 541 KB; the longest
- * image and its requests 231 KB in a replay, 316 KB on a box), with a margin, and tested in such a
+ * image and its requests 236 KB in a replay, 317 KB on a box), with a margin, and tested in such a
  * thread (tests/c/stack.c). That is not proved.
  */
 #define GATE_TEXT_STACK 655360   /* gate_text                                                    */
@@ -181,11 +180,26 @@ typedef char gate_lengths_have_64_bits[sizeof(size_t) == 8 ? 1 : -1];
  *   print    17 6 20
  */
 
+/*
+ * The library's own functions ask for pointers that are not null, also where the length is 0. So
+ * each that takes a length is called by a function here that lends a byte in place of nothing, and
+ * its name is a macro for that. Its address, and its name in parentheses, are the library's.
+ */
+static inline const uint8_t *gate_lent(const uint8_t *bytes, size_t length) {
+    static const uint8_t none = 0;
+    return length ? bytes : &none;
+}
+
 /* Makes a box fresh, whatever it held: the root alone, no role, no file, all slots free. */
 void gate_fresh(gate_box *box);
 
 /* Loads a policy image, whatever the box held: replaces all of it, and frees every slot. */
 gate_answer gate_load(gate_box *box, const uint8_t *image, size_t image_len);
+
+static inline gate_answer gate_load_lent(gate_box *box, const uint8_t *image, size_t image_len) {
+    return (gate_load)(box, gate_lent(image, image_len), image_len);
+}
+#define gate_load(...) gate_load_lent(__VA_ARGS__)
 
 /*
  * Makes the call of one record, which is there whole and with nothing after it:
@@ -204,6 +218,13 @@ gate_answer gate_load(gate_box *box, const uint8_t *image, size_t image_len);
  * out nothing.
  */
 gate_answer gate_serve(gate_box *box, const uint8_t *record, size_t record_len, uint8_t *out, size_t out_len);
+
+static inline gate_answer gate_serve_lent(gate_box *box, const uint8_t *record, size_t record_len, uint8_t *out,
+                                          size_t out_len) {
+    uint8_t none = 0;
+    return (gate_serve)(box, gate_lent(record, record_len), record_len, out_len ? out : &none, out_len);
+}
+#define gate_serve(...) gate_serve_lent(__VA_ARGS__)
 
 /* The codes of the records. */
 #define GATE_BEGIN 1
@@ -224,16 +245,9 @@ gate_answer gate_serve(gate_box *box, const uint8_t *record, size_t record_len, 
  */
 static inline uint8_t gate_byte(size_t number) { return (uint8_t)(number < 255 ? number : 255); }
 
-/* Makes the call of a record with so much room, which may be none and a null pointer. */
-static inline gate_answer gate_call_in(gate_box *box, const uint8_t *record, size_t record_len, uint8_t *out,
-                                       size_t room) {
-    uint8_t none = 0;
-    return gate_serve(box, record, record_len, room ? out : &none, room);
-}
-
 /* Makes the call of a record that gives nothing out. */
 static inline gate_answer gate_call(gate_box *box, const uint8_t *record, size_t record_len) {
-    return gate_call_in(box, record, record_len, NULL, 0);
+    return gate_serve(box, record, record_len, NULL, 0);
 }
 
 /*
@@ -280,8 +294,8 @@ static inline gate_answer gate_ask(gate_box *box, size_t slot, size_t file, size
 
 /*
  * Stores T1 and T2 in a file's row of that mode: the bytes of two expressions, such as gate_text
- * makes. Here and in gate_bypass an expression of length 0 may be a null pointer, and one of any
- * length over 48 is wrong at place 48, or at 304 if it is the second.
+ * makes. Here and in gate_bypass an expression of any length over 48 is wrong at place 48, or at 304
+ * if it is the second.
  */
 static inline gate_answer gate_change(gate_box *box, size_t slot, size_t file, size_t mode, const uint8_t *t1,
                                       size_t t1_length, const uint8_t *t2, size_t t2_length) {
@@ -302,13 +316,12 @@ static inline gate_answer gate_bypass(gate_box *box, size_t slot, size_t file, s
  *
  * The expression has to be in order for the box's tree; OR may stand in it. `out` has to have room
  * for 512 bytes (GATE_LONGEST_TEXT), however short the text is. Alters nothing of the box, and
- * nothing of `out` past the text. An expression of length 0 may be a null pointer, and one of any
- * length over 48 is wrong at place 48; an `out` without room may be a null pointer.
+ * nothing of `out` past the text. An expression of any length over 48 is wrong at place 48.
  */
 static inline gate_answer gate_print(gate_box *box, const uint8_t *expression, size_t length, uint8_t *out,
                                      size_t room) {
     uint8_t record[1 + (GATE_LONGEST_EXPRESSION + 2)] = {GATE_PRINT};
-    return gate_call_in(box, record, gate_put(record, 1, expression, length), out, room);
+    return gate_serve(box, record, gate_put(record, 1, expression, length), out, room);
 }
 
 /* ---- Whole inputs and texts ---------------------------------------------------------------- */
@@ -325,6 +338,12 @@ static inline gate_answer gate_print(gate_box *box, const uint8_t *expression, s
  */
 size_t gate_replay(const uint8_t *input, size_t input_len, uint8_t *out, size_t out_len);
 
+static inline size_t gate_replay_lent(const uint8_t *input, size_t input_len, uint8_t *out, size_t out_len) {
+    uint8_t none = 0;
+    return (gate_replay)(gate_lent(input, input_len), input_len, out_len ? out : &none, out_len);
+}
+#define gate_replay(...) gate_replay_lent(__VA_ARGS__)
+
 /*
  * Turns the text of an expression, such as "1|3&5", to the bytes that images and requests carry,
  * at the front of `out`, which must have room for 48. Returns a packed answer: 0 with the count of
@@ -332,6 +351,12 @@ size_t gate_replay(const uint8_t *input, size_t input_len, uint8_t *out, size_t 
  * past those made are unaltered too.
  */
 uint32_t gate_text(const uint8_t *text, size_t text_len, uint8_t *out, size_t out_len);
+
+static inline uint32_t gate_text_lent(const uint8_t *text, size_t text_len, uint8_t *out, size_t out_len) {
+    uint8_t none = 0;
+    return (gate_text)(gate_lent(text, text_len), text_len, out_len ? out : &none, out_len);
+}
+#define gate_text(...) gate_text_lent(__VA_ARGS__)
 
 #ifdef __cplusplus
 }

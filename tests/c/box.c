@@ -579,6 +579,21 @@ static void long_expressions(void) {
     by_call(gate_bypass(box, 0, 2, 1, NULL, 0, NULL, 0), 0, 0, "two null pointers");
 }
 
+/* Nothing, as a null pointer, to the doors themselves; their names are macros, which take any argument a function does. */
+static void null_pointers(void) {
+    gate_answer (*door)(gate_box *, const uint8_t *, size_t) = gate_load;
+    open_sessions();
+    after = *box;
+    by_call(gate_load(box, NULL, 0), 3, 0, "no image");
+    by_call(gate_serve(box, NULL, 0, NULL, 0), 255, 0, "no record and no room");
+    by_call(gate_serve(box, NULL, 0, room_of(9), 9), 255, 0, "no record");
+    by_call(gate_serve(box, input_of("\2\20", 2), 2, NULL, 0), 8, 0, "no room");
+    by_call(door(box, input_of("XYZ", 3), 3), 1, 0, "the library's own function");
+#ifndef __cplusplus
+    by_call(gate_load(box, (const uint8_t[]){'S', 'P', 'X'}, 3), 1, 2, "an array in the call");
+#endif
+}
+
 /* A box that is copied goes on by itself, and no call on one is seen by another. */
 static void side_by_side(void) {
     static gate_box other;
@@ -636,6 +651,7 @@ int main(void) {
     all_rooms();
     wide_numbers();
     long_expressions();
+    null_pointers();
     side_by_side();
     all_reached();
     printf("box: %u checks passed\n", checks);

@@ -130,6 +130,17 @@ static void cut_records(void) {
     REPLAY(SMALLEST "\377\2\0", "0 0\ncut\n");
 }
 
+/* Nothing, as a null pointer. */
+static void null_pointers(void) {
+    check(gate_text(NULL, 0, room_of(48), 48) == GATE_DONE, "the answer", "no text", 48);
+    check_room(48, "", 0, "no text");
+    check(gate_text(NULL, 0, NULL, 0) == GATE_BUFFER_SHORT, "the answer", "no text and no room", 0);
+    check(gate_text(input_of("7", 1), 1, NULL, 0) == GATE_BUFFER_SHORT, "the answer", "no room", 0);
+    check(gate_replay(NULL, 0, room_of(4), 4) == 4, "the length", "no input", 4);
+    check_room(4, "cut\n", 4, "no input");
+    check(gate_replay(NULL, 0, NULL, 0) == 1, "the length", "no input and no room", 0);
+}
+
 int main(void) {
     inputs = edge(4096);
     rooms = edge(4096);
@@ -140,6 +151,7 @@ int main(void) {
         loads();
         records();
         cut_records();
+        null_pointers();
     }
     printf("calls: %u checks passed\n", checks);
     return 0;
