@@ -45,15 +45,15 @@ pub data IsBoxRecord (bs : List ℕ) : Call → List ℕ → Type 0 where
   a-print : {x rest : List ℕ} → Recorded bs 16 (x ∷ []) rest → IsBoxRecord bs (prints x) rest
 
 -- the print of x: the state stays; granted it gives out the print, refused nothing
-pub record Prints (s : State) (x : List ℕ) (room : ℕ) (a : Answer) (t : State) (given : List ℕ) : Type 0 where
+pub record PrintDoes (s : State) (x : List ℕ) (room : ℕ) (a : Answer) (t : State) (given : List ℕ) : Type 0 where
   pub decides : Decides (printConditions s x room) (printGrants x) a
   pub gives : Leaves a (PrintOf x) [] given
   pub unaltered : t ≡ s
 
 -- a call on a state, with so much room for what it gives out: the answer, the state after it, and the bytes that it gives out. A request gives out none
-abbrev pub Does : State → Call → ℕ → Answer → State → List ℕ → Type 0
-Does s (requests q) room a t given = Step s q a t × (given ≡ [])
-Does s (prints x) room a t given = Prints s x room a t given
+abbrev pub CallDoes : State → Call → ℕ → Answer → State → List ℕ → Type 0
+CallDoes s (requests q) room a t given = Step s q a t × (given ≡ [])
+CallDoes s (prints x) room a t given = PrintDoes s x room a t given
 
 -- the request that a call with this answer was of the machine; a print is none
 abbrev pub requested : State → Call → Answer → List GateEvent
@@ -64,7 +64,7 @@ requested s (prints x) a = []
 pub record Makes (b : BoxRecord) (c : Call) (out : List ℕ) (r : ℕ) (after : BoxRecord) (out′ : List ℕ) : Type 0 where
   pub answer : Answer
   pub given : List ℕ
-  pub does : Does (b .state) c (length out) answer (after .state) given
+  pub does : CallDoes (b .state) c (length out) answer (after .state) given
   pub packs : r ≡ packed answer
   pub fills : out′ ≡ given ++ drop (length given) out
 

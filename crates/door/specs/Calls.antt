@@ -16,7 +16,7 @@ use Rattle.policy.specs.declared.Examined.{Examined}
 use Rattle.policy.specs.State.{mostFiles, offFile, setSlots, setFiles, withFile}
 use Rattle.policy.specs.WellFormed.{Examines}
 use Rattle.print.specs.Print.{PrintOf, printConditions, printGrants, printMakes}
-use Rattle.print.specs.Laws.{one-print}
+use Rattle.print.specs.Laws.{one-print-of}
 use Rattle.gate.specs.declared.Effect.{Effect}
 use Rattle.gate.specs.Effects.{Tells}
 use Rattle.machine.specs.Machine.{load, begin, end, ask, change, bypass, Step}
@@ -164,7 +164,7 @@ module _ (b : BoxRecord) (x out out′ : List ℕ) (a : Answer) (d : Decides (pr
           packs = u .told ∙ i;
           fills = e;
         };
-        count = u .count ∙ k ∙ ap length (one-print w v);
+        count = u .count ∙ k ∙ ap length (one-print-of w v);
       }
 
   print-refused : (Granted a → ⊥) → Unaltered b false n 0 r → PrintIs b x out r out′

@@ -17,7 +17,7 @@ use Rattle.order.specs.Laws.{added-place}
 use Rattle.policy.specs.declared.State.{State}
 use Rattle.policy.specs.WellFormed.{WellFormed}
 use Rattle.print.specs.Print.{PrintOf, printConditions, printGrants}
-use Rattle.print.specs.Laws.{one-print, one-print-answer, print-most}
+use Rattle.print.specs.Laws.{one-print-of, one-print-answer, print-most}
 use Rattle.image.specs.Laws.{load-inside, load-place}
 use Rattle.gate.specs.Small.{begin-small, end-small, ask-small, change-small, bypass-small}
 use Rattle.machine.specs.Runs as runs
@@ -31,7 +31,7 @@ use Rattle.records.specs.Laws.{one-record}
 use Rattle.records.specs.Places.{stands-in-place, stands-alone}
 use Rattle.door.specs.declared.BoxRecord.{BoxRecord}
 use Rattle.door.specs.Box.{packed, noRecord, Call, requests, prints, IsBoxRecord, begins, ends, asks, changes, bypasses, loads, a-print}
-use Rattle.door.specs.Box.{Does, requested, Makes, Refills, Called, Serves}
+use Rattle.door.specs.Box.{CallDoes, requested, Makes, Refills, Called, Serves}
 use Rattle.door.specs.Inner.{Inside, fieldAt, requestAt}
 
 -- the request of a code and its fields: three bytes and two expressions, or an image
@@ -178,7 +178,7 @@ print-small s x room a (inr (w, inr (o, inl d))) = (omega (arith, d .1), omega (
 print-small s x room a (inr (w, inr (o, inr (r, (g, (p, v, e)))))) = (omega (arith, g), omega (arith, e, print-most (w .tree) o v))
 
 -- and of a call
-pub does-small : (s t : State) (c : Call) (room : ℕ) (a : Answer) (given : List ℕ) → Does s c room a t given → (a .number < 100) × (a .place < 65536)
+pub does-small : (s t : State) (c : Call) (room : ℕ) (a : Answer) (given : List ℕ) → CallDoes s c room a t given → (a .number < 100) × (a .place < 65536)
 does-small s t (requests q) room a given w = step-small s t q a (w .0)
 does-small s t (prints x) room a given w = print-small s x room a (w .decides)
 
@@ -207,7 +207,7 @@ no-tree s t (change slot file mode x y) a e n w = no-tree-first s a e (w .decide
 no-tree s t (bypass slot file mode x y) a e n w = no-tree-first s a e (w .decides)
 
 no-tree-does : (s t : State) (c : Call) (room : ℕ) (a : Answer) (given : List ℕ) → s .tree .n ≡ 0 → ((image : List ℕ) → c ≡ requests (load image) → ⊥)
-    → Does s c room a t given → Is a illFormed 0
+    → CallDoes s c room a t given → Is a illFormed 0
 no-tree-does s t (requests q) room a given e n w = no-tree s t q a e (λ image i. n image (ap requests i)) (w .0)
 no-tree-does s t (prints x) room a given e n w = no-tree-first s a e (w .decides)
 
@@ -223,19 +223,19 @@ pub load-makes : {b after : BoxRecord} {image out out′ : List ℕ} {r : ℕ} �
 load-makes w e = record { answer = w .answer; given = []; does = (w .steps, refl); packs = w .packs; fills = e }
 
 -- a call is a run of the request that it is
-pub done-runs : (s t : State) (c : Call) (room : ℕ) (a : Answer) (given : List ℕ) → Does s c room a t given → GateRun s (requested s c a) t
+pub done-runs : (s t : State) (c : Call) (room : ℕ) (a : Answer) (given : List ℕ) → CallDoes s c room a t given → GateRun s (requested s c a) t
 done-runs s t (requests q) room a given w = runs.next {e = record { before = s; request = q; answer = a }} (w .0) runs.none
 done-runs s t (prints x) room a given w = subst (λ (u : State). GateRun s [] u) (sym (w .unaltered)) runs.none
 
 -- one answer, one state and the same bytes given out for every call on a state
-pub one-done : (s : State) (c : Call) (room : ℕ) (a b : Answer) (t u : State) (g h : List ℕ) → Does s c room a t g → Does s c room b u h
+pub one-done : (s : State) (c : Call) (room : ℕ) (a b : Answer) (t u : State) (g h : List ℕ) → CallDoes s c room a t g → CallDoes s c room b u h
     → Same a b t u × (g ≡ h)
 one-done s (requests q) room a b t u g h w v = (one-step s q a b t u (w .0) (v .0), w .1 ∙ sym (v .1))
 one-done s (prints x) room a b t u g h w v =
     let same = one-print-answer s x room a b (w .decides) (v .decides) in
     let gives = subst (λ (o : Answer). Leaves o (PrintOf x) [] h) (sym same) (v .gives) in (
       record { answer = same; state = w .unaltered ∙ sym (v .unaltered) },
-      one-left a (PrintOf x) (λ p q i j. one-print i j) [] g h (w .gives) gives,
+      one-left a (PrintOf x) (λ p q i j. one-print-of i j) [] g h (w .gives) gives,
     )
 
 -- one number and one box

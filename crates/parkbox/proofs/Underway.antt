@@ -17,7 +17,7 @@ use Rattle.script.specs.Windows.{Waits}
 use Rattle.door.specs.declared.BoxRecord.{BoxRecord}
 use Rattle.door.specs.declared.BoxServed.{BoxServed}
 use Rattle.door.specs.declared.BoxLoaded.{BoxLoaded}
-use Rattle.door.specs.Box.{packed, Call, requests, IsBoxRecord, Does, Serves}
+use Rattle.door.specs.Box.{packed, Call, requests, IsBoxRecord, CallDoes, Serves}
 use Rattle.door.specs.Inner.{boxAfter, givenIn, RecordIs, LoadIs}
 use Rattle.door.specs.Laws.{does-small}
 use Rattle.parkbox.specs.Parking.{lentRoom, NoBoxRecord, BoxPrints, input-over, record-broken}
@@ -32,7 +32,7 @@ pub record RecordMade (b : BoxRecord) (rec : List ℕ) (r : ℕ) (then : BoxReco
   pub call : Call
   pub is : IsBoxRecord rec call []
   pub answer : Answer
-  pub does : Does (b .state) call lentRoom answer (then .state) given
+  pub does : CallDoes (b .state) call lentRoom answer (then .state) given
   pub packs : r ≡ packed answer
 
 pub made-by-load : {b : BoxRecord} {rec out out′ : List ℕ} {r : BoxServed} {l : BoxLoaded} → RecordIs b rec out r out′ → r .loads ≡ true → LoadIs b rec l
@@ -59,8 +59,8 @@ made-by-call {b} {rec} {out} {out′} {r} {c} lent i w e = go (w .served e) (w .
           is = v .is;
           answer = m .answer;
           does =
-              subst (λ (g : List ℕ). Does (b .state) (v .call) lentRoom (m .answer) (boxAfter b r .state) g) (sym front)
-              (subst (λ (n : ℕ). Does (b .state) (v .call) n (m .answer) (boxAfter b r .state) (m .given)) lent (m .does));
+              subst (λ (g : List ℕ). CallDoes (b .state) (v .call) lentRoom (m .answer) (boxAfter b r .state) g) (sym front)
+              (subst (λ (n : ℕ). CallDoes (b .state) (v .call) n (m .answer) (boxAfter b r .state) (m .given)) lent (m .does));
           packs = m .packs;
         }
 

@@ -9,7 +9,7 @@ use Rattle.machine.specs.Runs.{Event, Run}
 use Rattle.machine.specs.Machine.{GateEvent, GateRun}
 use Rattle.lines.specs.Lines.{Line}
 use Rattle.script.specs.Script.{cutLine}
-use Rattle.door.specs.Box.{Call, IsBoxRecord, Does, requested}
+use Rattle.door.specs.Box.{Call, IsBoxRecord, CallDoes, requested}
 use Rattle.parkbox.specs.Parking.{lentRoom, NoBoxRecord}
 
 -- the bytes are the records of these calls, one after another, and then the rest
@@ -27,7 +27,7 @@ abbrev pub CallMade : Type 0
 CallMade = Event State Giving
 
 abbrev pub CallRun : State → List CallMade → State → Type 0
-CallRun = Run (λ (s : State) (g : Giving) (a : Answer) (t : State). Does s (g .call) lentRoom a t (g .given))
+CallRun = Run (λ (s : State) (g : Giving) (a : Answer) (t : State). CallDoes s (g .call) lentRoom a t (g .given))
 
 -- the requests among them
 abbrev pub requestsAmong : List CallMade → List GateEvent

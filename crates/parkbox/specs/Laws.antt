@@ -10,7 +10,7 @@ use Rattle.lines.specs.Lines.{Line}
 use Rattle.lines.specs.Laws.{one-line}
 use Rattle.records.specs.Records.{Unrecorded}
 use Rattle.door.specs.declared.BoxRecord.{BoxRecord}
-use Rattle.door.specs.Box.{Call, IsBoxRecord, Does}
+use Rattle.door.specs.Box.{Call, IsBoxRecord, CallDoes}
 use Rattle.door.specs.Laws.{matched, one-box-record, one-done}
 use Rattle.parkbox.specs.Parking.{lentRoom, NoBoxRecord, BoxPrints, input-over, record-made, record-broken, ParkPrints}
 
@@ -23,12 +23,12 @@ some-bytes : {rest : List ℕ} {c : Call} → IsBoxRecord [] c rest → ⊥
 some-bytes w = let e = ap length (matched w .recorded .is) in omega arith
 
 -- a call has one answer, gives out the same bytes, and leaves one box
-module _ (b x y : BoxRecord) (c d : Call) (m n : Answer) (g h : List ℕ) (p : Does (b .state) c lentRoom m (x .state) g)
-    (q : Does (b .state) d lentRoom n (y .state) h) (e : c ≡ d) where
+module _ (b x y : BoxRecord) (c d : Call) (m n : Answer) (g h : List ℕ) (p : CallDoes (b .state) c lentRoom m (x .state) g)
+    (q : CallDoes (b .state) d lentRoom n (y .state) h) (e : c ≡ d) where
   same : Same m n (x .state) (y .state) × (g ≡ h)
   same =
       one-done (b .state) c lentRoom m n (x .state) (y .state) g h p
-      (subst (λ (o : Call). Does (b .state) o lentRoom n (y .state) h) (sym e) q)
+      (subst (λ (o : Call). CallDoes (b .state) o lentRoom n (y .state) h) (sym e) q)
 
   same-box : x ≡ y
   same-box = λ j. record { state = same .0 .state j }

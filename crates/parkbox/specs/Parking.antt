@@ -6,7 +6,7 @@ use Rattle.answer.specs.declared.Answer.{Answer}
 use Rattle.lines.specs.Lines.{Line}
 use Rattle.script.specs.Script.{cutLine}
 use Rattle.door.specs.declared.BoxRecord.{BoxRecord}
-use Rattle.door.specs.Box.{Call, freshBox, IsBoxRecord, Does}
+use Rattle.door.specs.Box.{Call, freshBox, IsBoxRecord, CallDoes}
 
 -- no record of the table stands at the front
 abbrev pub NoBoxRecord : List ℕ → Type 0
@@ -21,7 +21,7 @@ lentRoom = 512
 pub data BoxPrints : BoxRecord → List ℕ → List ℕ → Type 0 where
   input-over : {b : BoxRecord} → BoxPrints b [] []
   record-made : {b after : BoxRecord} {bytes rest given line printed : List ℕ} {c : Call} {a : Answer}
-      → IsBoxRecord bytes c rest → Does (b .state) c lentRoom a (after .state) given → Line a given line → BoxPrints after rest printed
+      → IsBoxRecord bytes c rest → CallDoes (b .state) c lentRoom a (after .state) given → Line a given line → BoxPrints after rest printed
       → BoxPrints b bytes (line ++ printed)
   record-broken : {b : BoxRecord} {bytes : List ℕ} → (bytes ≡ [] → ⊥) → NoBoxRecord bytes → BoxPrints b bytes cutLine
 

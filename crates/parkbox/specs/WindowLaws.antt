@@ -9,7 +9,7 @@ use Rattle.lines.specs.Lines.{Line}
 use Rattle.records.specs.Records.{longestInTable, Unrecorded}
 use Rattle.records.specs.Laws.{AllBytes, record-onward, record-decided}
 use Rattle.door.specs.declared.BoxRecord.{BoxRecord}
-use Rattle.door.specs.Box.{Call, freshBox, IsBoxRecord, begins, ends, asks, changes, bypasses, loads, a-print, Does}
+use Rattle.door.specs.Box.{Call, freshBox, IsBoxRecord, begins, ends, asks, changes, bypasses, loads, a-print, CallDoes}
 use Rattle.parkbox.specs.Parking.{lentRoom, NoBoxRecord, BoxPrints, record-made, ParkPrints}
 use Rattle.parkbox.specs.Windows.{PrintsTo, still-there, past-record, BoxBlocks, block-last, block-next}
 use Rattle.parkbox.specs.Laws.{unrecorded, one-park-print}
@@ -32,7 +32,7 @@ unrecorded-onward window later bytes enough none =
 
 -- ---- one after another
 pub one-record-on : {b after : BoxRecord} {bytes rest given line : List ℕ} {c : Call} {a : Answer} → IsBoxRecord bytes c rest
-    → Does (b .state) c lentRoom a (after .state) given → Line a given line → PrintsTo b bytes after rest line
+    → CallDoes (b .state) c lentRoom a (after .state) given → Line a given line → PrintsTo b bytes after rest line
 one-record-on {b} {after} {bytes} {rest} {given} {line} i d l =
     subst (λ (p : List ℕ). PrintsTo b bytes after rest p) (append-nil line) (past-record {b = b} {mid = after} {given = given} i d l still-there)
 

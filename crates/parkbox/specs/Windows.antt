@@ -9,7 +9,7 @@ use Rattle.lines.specs.Lines.{Line}
 use Rattle.records.specs.Records.{longestInTable}
 use Rattle.script.specs.Windows.{Waits}
 use Rattle.door.specs.declared.BoxRecord.{BoxRecord}
-use Rattle.door.specs.Box.{Call, freshBox, IsBoxRecord, Does}
+use Rattle.door.specs.Box.{Call, freshBox, IsBoxRecord, CallDoes}
 use Rattle.parkbox.specs.declared.Parked.{Parked}
 use Rattle.parkbox.specs.Parking.{lentRoom, BoxPrints}
 
@@ -17,7 +17,7 @@ use Rattle.parkbox.specs.Parking.{lentRoom, BoxPrints}
 pub data PrintsTo : BoxRecord → List ℕ → BoxRecord → List ℕ → List ℕ → Type 0 where
   still-there : {b : BoxRecord} {bytes : List ℕ} → PrintsTo b bytes b bytes []
   past-record : {b mid after : BoxRecord} {bytes rest left given line printed : List ℕ} {c : Call} {a : Answer}
-      → IsBoxRecord bytes c rest → Does (b .state) c lentRoom a (mid .state) given → Line a given line → PrintsTo mid rest after left printed
+      → IsBoxRecord bytes c rest → CallDoes (b .state) c lentRoom a (mid .state) given → Line a given line → PrintsTo mid rest after left printed
       → PrintsTo b bytes after left (line ++ printed)
 
 -- room for any line in an output: 20 digits twice, a space, three for each byte that is given out, and the line end

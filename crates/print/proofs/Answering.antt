@@ -25,7 +25,7 @@ use Rattle.policy.specs.declared.Examined.{Examined}
 use Rattle.policy.specs.WellFormed.{Examines}
 use Rattle.print.specs.declared.Printing.{Printing}
 use Rattle.print.specs.Print.{PrintOf, of-nothing, of-expression, printed, printConditions, printGrants, printMakes}
-use Rattle.print.specs.Writing.{Ahead, Prints}
+use Rattle.print.specs.Writing.{Ahead, PrintsFront}
 use Rattle.print.specs.Longest.{print-fits}
 
 -- ---- the conditions, one after the other
@@ -134,7 +134,7 @@ module _ (s : State) (x before : List ℕ) (a : Answer) (d : DecidesAt (printCon
             room = omega (arith, print-fits e (subst (λ (y : List ℕ). length y ≤ longest) is few), held .1 .1 .0);
           }
 
-      pub print-done : {after : List ℕ} {r : Printing} {b : Answer} → Prints x false before 0 after r → Is b 0 (r .to)
+      pub print-done : {after : List ℕ} {r : Printing} {b : Answer} → PrintsFront x false before 0 after r → Is b 0 (r .to)
           → Decides (printConditions s x (length before)) (printGrants x) b × Leaves b (printMakes x before) before after
       print-done {after} {r} {b} w i =
           let e = expression .0 in

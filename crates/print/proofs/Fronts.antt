@@ -15,7 +15,7 @@ use Rattle.expression.specs.Bytes.{bytes}
 use Rattle.expression.specs.Scan.{from, from-drop}
 use Rattle.print.specs.declared.Printing.{Printing}
 use Rattle.print.specs.Print.{openPair, closePair, paired, isAND, isOR, printed}
-use Rattle.print.specs.Writing.{bracketed, needsPair, signOf, TermAhead, PrintsTerm, Ahead, Prints}
+use Rattle.print.specs.Writing.{bracketed, needsPair, signOf, TermAhead, PrintsTerm, Ahead, PrintsFront}
 
 -- the byte at k of a list that is known
 byte : {bs l : List ℕ} (k : ℕ) → bs ≡ l → getD bs k 0 ≡ getD l k 0
@@ -184,7 +184,7 @@ term-ahead {bs} {out} {pair} {at} w c = go (w .expr) (w .is) (subst (λ (p : Boo
     go (a OR b) q h = absurd (omega (arith, byte 0 q))
 
 pub prints-term : {bs before after : List ℕ} {pair : Bool} {at : ℕ} {r : Printing} → Ahead bs pair before at → getD bs 0 0 < 3
-    → PrintsTerm bs before at after r → Prints bs pair before at after r
+    → PrintsTerm bs before at after r → PrintsFront bs pair before at after r
 prints-term {bs} {before} {after} {pair} {at} {r} w c h (term x) tail q =
     let o = h x tail q in
     (o .0, subst (λ (p : Bool). WrittenAt before at (paired p (printed (term x))) after (r .to)) (sym (no-pair w c)) (o .1))
@@ -263,7 +263,7 @@ module _ {bs : List ℕ} {pair : Bool} {before : List ℕ} {at : ℕ} (w : Ahead
     }
 
     -- so was the left operand
-    module _ {m2 : List ℕ} {left : Printing} (L : Prints (from bs 1) lp m1 p m2 left) where
+    module _ {m2 : List ℕ} {left : Printing} (L : PrintsFront (from bs 1) lp m1 p m2 left) where
       abbrev left-done : (left .used ≡ length (bytes (op .a))) × WrittenAt m1 p (paired lp (printed (op .a))) m2 (left .to)
       left-done = L (op .a) _ (op .left-is)
 
@@ -310,7 +310,7 @@ module _ {bs : List ℕ} {pair : Bool} {before : List ℕ} {at : ℕ} (w : Ahead
         }
 
         -- so was the right operand
-        module _ {m4 : List ℕ} {right : Printing} (R : Prints (from bs (1 + left .used)) rp m3 q m4 right) where
+        module _ {m4 : List ℕ} {right : Printing} (R : PrintsFront (from bs (1 + left .used)) rp m3 q m4 right) where
           abbrev right-done : (right .used ≡ length (bytes (op .b))) × WrittenAt m3 q (paired rp (printed (op .b))) m4 (right .to)
           right-done = R (op .b) _ right-is-now
 
@@ -358,7 +358,7 @@ module _ {bs : List ℕ} {pair : Bool} {before : List ℕ} {at : ℕ} (w : Ahead
                   subst (λ (t : List ℕ). WrittenAt before at t m5 to) (sym (paired-is pair (joinedText x a b))) all,
                 )
 
-            pub prints-operator : Prints bs pair before at m5 (record { used = 1 + left .used + right .used; to = to })
+            pub prints-operator : PrintsFront bs pair before at m5 (record { used = 1 + left .used + right .used; to = to })
             prints-operator (term (one k)) tail e = absurd (omega (arith, byte 0 e))
             prints-operator (term (range k i j)) tail e = absurd (omega (arith, byte 0 e))
             prints-operator (a AND b) tail e =

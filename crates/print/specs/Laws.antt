@@ -38,9 +38,9 @@ unfolding PrintCases
 cases of-nothing = inl (refl, refl)
 cases (of-expression e) = inr (e, refl, refl)
 
-pub one-print : {x p q : List ℕ} → PrintOf x p → PrintOf x q → p ≡ q
+pub one-print-of : {x p q : List ℕ} → PrintOf x p → PrintOf x q → p ≡ q
 unfolding PrintCases
-one-print {x} {p} {q} v w = go (cases v) (cases w)
+one-print-of {x} {p} {q} v w = go (cases v) (cases w)
   where
     go : PrintCases x p → PrintCases x q → p ≡ q
     go (inl (e, h)) (inl (f, k)) = h ∙ sym k
@@ -50,10 +50,10 @@ one-print {x} {p} {q} v w = go (cases v) (cases w)
 
 -- ---- one answer, and one content
 one-length : (x : List ℕ) → AtMostOne (printGrants x)
-one-length x i j (p, v, h) (q, w, k) = h ∙ ap length (one-print v w) ∙ sym k
+one-length x i j (p, v, h) (q, w, k) = h ∙ ap length (one-print-of v w) ∙ sym k
 
 one-content : (x before : List ℕ) → AtMostOne (printMakes x before)
-one-content x before y z (p, v, h) (q, w, k) = h ∙ ap (λ (l : List ℕ). l ++ drop (length l) before) (one-print v w) ∙ sym k
+one-content x before y z (p, v, h) (q, w, k) = h ∙ ap (λ (l : List ℕ). l ++ drop (length l) before) (one-print-of v w) ∙ sym k
 
 pub print-places : (s : State) (x : List ℕ) (room : ℕ) → OnePlaceEach (printConditions s x room)
 print-places s x room = (said 0, (one-in-order Protection (s .tree) 0 x, (said 0, tt)))
@@ -134,7 +134,7 @@ module _ {t : Tree} (w : IsTree t) {x p : List ℕ} (o : InOrderOver Protection 
 
   -- "Reprinting a print changes nothing": what is read from it prints as it
   pub reprint-same : {y q : List ℕ} → TextOf p y → PrintOf y q → q ≡ p
-  reprint-same {y} {q} r z = one-print (subst (λ (b : List ℕ). PrintOf b q) (one-reading r print-reads) z) v
+  reprint-same {y} {q} r z = one-print-of (subst (λ (b : List ℕ). PrintOf b q) (one-reading r print-reads) z) v
 
 -- "with parentheses only where the grouping needs them and no spaces": it is the one shortest text of these bytes; any other is longer
 pub one-shortest : {x p s : List ℕ} → PrintOf x p → TextOf s x → (length p < length s) ⊎ (s ≡ p)

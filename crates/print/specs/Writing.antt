@@ -49,8 +49,8 @@ pub record Ahead (bs : List ℕ) (pair : Bool) (out : List ℕ) (at : ℕ) : Typ
   pub room : RoomFor out at (paired pair (printed expr))
 
 -- whichever expression stands at the front: it has so many bytes, and was printed
-abbrev pub Prints : List ℕ → Bool → List ℕ → ℕ → List ℕ → Printing → Type 0
-Prints bs pair before at after r =
+abbrev pub PrintsFront : List ℕ → Bool → List ℕ → ℕ → List ℕ → Printing → Type 0
+PrintsFront bs pair before at after r =
     (e : Expr) (tail : List ℕ) → bs ≡ bytes e ++ tail → (r .used ≡ length (bytes e)) × WrittenAt before at (paired pair (printed e)) after (r .to)
 
 -- some state was seen so at its examination

@@ -20,7 +20,7 @@ ghost use Rattle.expression.specs.declared.Kind.the-variants.{Protection};
 ghost use Rattle.order.specs.Conditions.{inOrder};
 ghost use Rattle.print.specs.Print.{decimal as Print·decimal, rangeText, printConditions, printGrants, printMakes};
 ghost use Rattle.writing.specs.Writing.{WrittenAt, RoomFor};
-ghost use Rattle.print.specs.Writing.{SeenOnce, OfSeen, bracketed, needsPair, signOf, TermAhead, PrintsTerm, Ahead, Prints};
+ghost use Rattle.print.specs.Writing.{SeenOnce, OfSeen, bracketed, needsPair, signOf, TermAhead, PrintsTerm, Ahead, PrintsFront};
 
 // The room that a print needs, however short it is.
 const ROOM: usize = 512;
@@ -119,7 +119,7 @@ fn sign(code: u8) -> u8
 // The expression at the front, in a pair where one is to stand: a call per operand, over the remaining bytes.
 fn print_front(rest: &[u8], pair: bool, out: &mut [u8], at: usize) -> Printing
     requires { ⌜ Ahead (now rest) pair (now out) at ⌝ }
-    ensures { λ r. ⌜ Prints (now (rest .entry)) pair (now (out .entry)) at (now (out .exit)) r ⌝ }
+    ensures { λ r. ⌜ PrintsFront (now (rest .entry)) pair (now (out .entry)) at (now (out .exit)) r ⌝ }
 {
     let code = rest[0];
     if code < AND {
