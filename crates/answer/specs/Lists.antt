@@ -29,6 +29,15 @@ module _ (grants : ℕ → Type 0) (a : Answer) where
   granted-all (c ∷ cs) r (inr p) g =
       let w = and-iff (ltb 0 (c .number)) (refuses cs) iff-refl iff-refl .0 r in (p .0, granted-all cs (w .1) (p .1) g)
 
+  -- and names its place
+  pub granted-place : (cs : List Condition) → refuses cs ≡ true → Decides cs grants a → Granted a → grants (a .place)
+  granted-place [] r d g = d .1
+  granted-place (c ∷ cs) r (inl p) g =
+      let w = and-iff (ltb 0 (c .number)) (refuses cs) iff-refl iff-refl .0 r in
+      absurd (omega (arith, ltb-true 0 (c .number) (w .0), p .1))
+  granted-place (c ∷ cs) r (inr p) g =
+      let w = and-iff (ltb 0 (c .number)) (refuses cs) iff-refl iff-refl .0 r in granted-place cs (w .1) (p .1) g
+
   -- where every condition holds there is a grant
   pub all-granted : (cs : List Condition) → AllHold cs → Decides cs grants a → Granted a
   all-granted [] h d = d .0
@@ -65,6 +74,12 @@ module _ (grants : ℕ → Type 0) (a : Answer) where
   pub then-second : (xs ys : List Condition) → AllHold xs → Decides ys grants a → Decides (xs ++ ys) grants a
   then-second [] ys h d = d
   then-second (c ∷ xs) ys h d = inr (h .0, then-second xs ys (h .1) d)
+
+-- a refusal is one whatever a grant names
+pub refusal-kept : (g h : ℕ → Type 0) (a : Answer) (cs : List Condition) → Decides cs g a → (Granted a → ⊥) → Decides cs h a
+refusal-kept g h a [] d n = absurd (n (d .0))
+refusal-kept g h a (c ∷ cs) (inl p) n = inl p
+refusal-kept g h a (c ∷ cs) (inr p) n = inr (p .0, refusal-kept g h a cs (p .1) n)
 
 -- condition by condition, the two hold in the same cases and refuse alike
 pub record Alike (c e : Condition) : Type 0 where

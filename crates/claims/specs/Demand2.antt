@@ -3,7 +3,7 @@
 -- nobody could write that set out." Below, each sentence is followed by its theorems. Assumes nothing.
 use mathlib.Core.Path.{_≡_, refl}
 use mathlib.Core.Bool.{true}
-use mathlib.Core.List.{List, [], _∷_}
+use mathlib.Core.List.{List}
 use mathlib.Core.Logic.{_↔_, inl, inr}
 use Prim.Native.Nat.{ℕ, zero, suc, _<_}
 use native.Mathlib.Omega.{arith}
@@ -12,7 +12,7 @@ use Rattle.answer.specs.declared.Answer.{Answer}
 use Rattle.answer.specs.Answers.{Condition, Decides, Granted, Is, AllHold, FirstFails, Leaves}
 use Rattle.answer.specs.Numbers.{rowNotPassed}
 use Rattle.answer.specs.Laws.{OnePlaceEach}
-use Rattle.answer.specs.Lists.{refuses, granted-exactly, refused-exactly}
+use Rattle.answer.specs.Lists.{refuses, granted-place, granted-exactly, refused-exactly}
 use Rattle.expression.specs.Bytes.{MeetsT1}
 use Rattle.policy.specs.State.{IsMode, read, write, Present, Free, By, withHold, withT1T2, withEG, roleOf, t1Of}
 use Rattle.policy.specs.declared.State.{State}
@@ -88,14 +88,9 @@ fills-exactly cs grants makes before after a f one d l =
     let x = exactly cs grants a f one d in
     record {
       answer = x;
-      after-a-grant = λ h. (named cs h d, l .on-grant (x .granted .1 h));
+      after-a-grant = λ h. let g = x .granted .1 h in (granted-place grants a cs f d g, l .on-grant g);
       after-a-refusal = λ n. l .on-refusal (λ g. n (x .granted .0 g));
     }
-  where
-    named : (cs : List Condition) → AllHold cs → Decides cs grants a → grants (a .place)
-    named [] h w = w .1
-    named (c ∷ cs) h (inl w) = absurd (w .0 (h .0))
-    named (c ∷ cs) h (inr w) = named cs (h .1) (w .1)
 
 -- text: 20, 18, 19; the place is the count of its bytes, and they fill the front of the output
 abbrev pub TurnsExactly : List ℕ → List ℕ → List ℕ → Answer → Type 0

@@ -4,17 +4,16 @@ use mathlib.Core.Bool.{true, false, true≢false}
 use mathlib.Core.List.{List, []}
 use mathlib.Core.Logic.{inl, inr}
 use Prim.Native.Nat.{ℕ, _<_, _≤_}
-use native.Mathlib.Decide.{decLt, ℕ-discrete}
+use native.Mathlib.Decide.{ℕ-discrete}
 use native.Mathlib.Omega.{arith}
 use lib.ListN.{length, getD}
-use lib.Seq.{set-getD}
 use Rattle.answer.specs.declared.Answer.{Answer}
 use Rattle.answer.specs.Numbers.{done}
 use Rattle.answer.specs.Answers.{Granted, Decides, Leaves}
-use Rattle.policy.specs.declared.File.{File}
+use Rattle.answer.specs.Lists.{granted-place}
 use Rattle.policy.specs.declared.Examined.{Examined}
-use Rattle.policy.specs.State.{mostFiles, offFile, setSlots, setFiles, withFile}
 use Rattle.policy.specs.WellFormed.{Examines}
+use Rattle.policy.specs.SeenLaws.{at-within, stored-again}
 use Rattle.print.specs.Print.{PrintOf, printConditions, printGrants, printMakes}
 use Rattle.print.specs.Laws.{one-print-of}
 use Rattle.gate.specs.declared.Effect.{Effect}
@@ -58,19 +57,9 @@ seen-unaltered b slot file seen v answer given = record {
   loads-is = refl;
   told = refl;
   count = refl;
-  within-files = within (decLt file mostFiles);
-  same = λ i. record { state = same i };
+  within-files = at-within v;
+  same = λ i. record { state = stored-again v i };
 }
-  where
-    within : Dec (file < mostFiles) → seen .at < mostFiles
-    within (yes h) = omega (arith, v .at-is h)
-    within (no n) = omega (arith, v .at-else (omega arith))
-
-    same : withFile (setSlots (b .state) (seen .slots)) (seen .at) (seen .file) ≡ b .state
-    same =
-        ap (λ (l : List ℕ). withFile (setSlots (b .state) l) (seen .at) (seen .file)) (v .slots-is)
-        ∙ ap (λ (f : File). withFile (b .state) (seen .at) f) (v .file-is)
-        ∙ ap (setFiles (b .state)) (set-getD (b .state .files) (seen .at) offFile)
 
 module _ (b : BoxRecord) (rec : List ℕ) (p : Parted) where
   -- no load
@@ -141,13 +130,7 @@ module _ (b : BoxRecord) (x out out′ : List ℕ) (a : Answer) (d : Decides (pr
     (l : Leaves a (printMakes x out) out out′) (n : ℕ) (i : n ≡ packed a) (r : BoxServed) where
   -- a grant names the printed length
   names-length : Granted a → printGrants x (a .place)
-  names-length g = go d
-    where
-      go : Decides (printConditions (b .state) x (length out)) (printGrants x) a → printGrants x (a .place)
-      go (inl p) = absurd (omega (arith, p .1, g))
-      go (inr (p, inl q)) = absurd (omega (arith, q .1, g))
-      go (inr (p, inr (q, inl k))) = absurd (omega (arith, k .1, g))
-      go (inr (p, inr (q, inr (k, e)))) = e .1
+  names-length = granted-place (printGrants x) a (printConditions (b .state) x (length out)) refl d
 
   print-granted : Granted a → Unaltered b false n (a .place) r → PrintIs b x out r out′
   print-granted g u =

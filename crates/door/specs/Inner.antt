@@ -13,9 +13,9 @@ use Rattle.policy.specs.declared.Examined.{Examined}
 use Rattle.policy.specs.State.{mostFiles, setSlots, withFile}
 use Rattle.policy.specs.Fine.{stateOfParts}
 use Rattle.policy.specs.WellFormed.{Examines}
+use Rattle.policy.specs.Seen.{Of}
 use Rattle.gate.specs.declared.Effect.{Effect}
 use Rattle.gate.specs.Effects.{Tells}
-use Rattle.gate.specs.Parts.{Of}
 use Rattle.machine.specs.Machine.{Request, load, Step}
 use Rattle.machine.specs.Served.{requestOf}
 use Rattle.records.specs.declared.Span.{Span}

@@ -1,10 +1,10 @@
 -- What the stages of a request know of the state that was seen, and what they make of it. Assumes nothing.
-use mathlib.Core.Path.{_≡_, refl, sym, ap, _∙_, subst}
+use mathlib.Core.Path.{_≡_, refl, ap, _∙_, subst}
 use mathlib.Core.Bool.{Bool, true}
 use mathlib.Core.List.{List, [], _∷_, _++_}
 use mathlib.Core.Logic.{_↔_}
 use Prim.Native.Nat.{ℕ, _<_}
-use native.Mathlib.Decide.{decLt, ℕ-discrete}
+use native.Mathlib.Decide.{ℕ-discrete}
 use native.Mathlib.Omega.{arith}
 use lib.ListN.{getD, set}
 use lib.Seq.{set-getD}
@@ -13,7 +13,6 @@ use Rattle.answer.specs.Numbers.{done}
 use Rattle.answer.specs.Answers.{Condition, Is, Granted, DecidesAt, AllHold}
 use Rattle.answer.specs.Lists.{refused-first, then-second}
 use Rattle.tree.specs.declared.Tree.{Tree}
-use Rattle.tree.specs.Tree.{Ready}
 use Rattle.tree.specs.Laws.{one-depth}
 use Rattle.expression.specs.declared.Kind.{Kind}
 use Rattle.expression.specs.Bytes.{Right}
@@ -22,9 +21,10 @@ use Rattle.policy.specs.declared.Role.{Role}
 use Rattle.policy.specs.declared.File.{File}
 use Rattle.policy.specs.declared.State.{State}
 use Rattle.policy.specs.declared.Examined.{Examined}
-use Rattle.policy.specs.State.{mostRoles, mostFiles, Hold, heldIn, slotWith, Present, roleAt, fileAt, roleOf}
-use Rattle.policy.specs.State.{holdOf, setFiles, setSlots, withHold, withFile, putPair, withPair}
+use Rattle.policy.specs.State.{mostFiles, Hold, heldIn, slotWith, Present, roleAt, fileAt, roleOf}
+use Rattle.policy.specs.State.{holdOf, setFiles, withHold, withFile, putPair, withPair}
 use Rattle.policy.specs.WellFormed.{RoleInOrder, FileInOrder, WellFormed, Examines}
+use Rattle.policy.specs.SeenLaws.{at-within, ready, stored-again}
 use Rattle.policy.specs.Whole.{session-holds}
 use Rattle.rules.specs.AtHand.{AtHand}
 use Rattle.gate.specs.declared.Effect.{Effect}
@@ -34,21 +34,9 @@ use Rattle.gate.specs.Effects.{effectOf, after, Tells}
 use Rattle.gate.specs.Parts.{StoredIs}
 
 module _ {s : State} {slot file : ℕ} {seen : Examined} (x : Examines s slot file seen) where
-  -- the file that was seen is one of the 32
-  pub at-within : seen .at < mostFiles
-  at-within = go (decLt file mostFiles)
-    where
-      go : Dec (file < mostFiles) → seen .at < mostFiles
-      go (yes h) = omega (arith, x .at-is h)
-      go (no n) = omega (arith, x .at-else (omega arith))
-
   -- the slots that were seen are those of the state
   pub hold-seen : heldIn (getD (seen .slots) slot 0) ≡ holdOf s slot
   hold-seen = ap (λ (l : List ℕ). heldIn (getD l slot 0)) (x .slots-is)
-
-  -- the tree with its levels
-  pub ready : WellFormed s → Ready (seen .tree) (seen .levels)
-  ready w = rw (x .tree-is) (record { tree = w .tree; levels = x .levels w })
 
   -- what is in order over the tree is right over its levels
   pub right-over : WellFormed s → (kind : Kind) (bs : List ℕ) → InOrderOver kind (s .tree) bs → Right kind (seen .tree .n) (seen .levels .depth .0) bs
@@ -75,7 +63,7 @@ module _ {s : State} {slot file : ℕ} {seen : Examined} (x : Examines s slot fi
         let role : RoleInOrder (s .tree .n) d r = subst (λ (k : ℕ). RoleInOrder (s .tree .n) k r) e (w .roles-in-order (roleOf s slot) role-few) in
         let f = fileAt s file in
         let its : FileInOrder (s .tree .n) d f = subst (λ (k : ℕ). FileInOrder (s .tree .n) k f) e (w .files-in-order file present) in
-        record { ready = ready w; role = rw (x .tree-is, role-seen) role; file = rw (x .tree-is, file-seen) its }
+        record { ready = ready x w; role = rw (x .tree-is, role-seen) role; file = rw (x .tree-is, file-seen) its }
 
     -- a test of what was seen is one of the session's role and the file
     pub told : (P : Tree → Role → File → Type 0) {b : Bool} → (b ≡ true) ↔ P (seen .tree) (seen .role) (seen .file)
@@ -100,7 +88,7 @@ granted-here is = (is .number, is .place)
 -- what an effect leaves: all as it was, a slot altered, a file altered
 module _ {s : State} {slot file : ℕ} {seen : Examined} (x : Examines s slot file seen) where
   pub after-kept : (a : Answer) → after s (effectOf a (seen .slots) (seen .at) (seen .file)) ≡ s
-  after-kept a = rw (x .slots-is, x .file-is) (ap (setFiles s) (set-getD (s .files) (seen .at) _))
+  after-kept a = stored-again x
 
   pub after-hold : (a : Answer) (h : Hold) → after s (effectOf a (set (seen .slots) slot (slotWith h)) (seen .at) (seen .file)) ≡ withHold s slot h
   after-hold a h = rw (x .slots-is, x .file-is) (ap (setFiles (withHold s slot h)) (set-getD (s .files) (seen .at) _))

@@ -10,10 +10,11 @@ ghost use lib.ListN.{length, set};
 ghost use Rattle.answer.specs.Answers.{Granted, DecidesAt};
 ghost use Rattle.expression.specs.Bytes.{longest};
 ghost use Rattle.policy.specs.State.{slotCount, IsMode, filePlace};
+ghost use Rattle.policy.specs.Seen.{Seen, SeenAt, Of, OfAll};
 ghost use Rattle.gate.specs.Requests.{slotConditions, sessionConditions, rowConditions, storeConditions, beginConditions};
 ghost use Rattle.gate.specs.Requests.{askConditions, bypassConditions, Begins, Ends, Asks, Changes, Bypasses};
 ghost use Rattle.gate.specs.Effects.{effectOf, Tells};
-ghost use Rattle.gate.specs.Parts.{Seen, SeenAt, Of, OfAll, StoredIs};
+ghost use Rattle.gate.specs.Parts.{StoredIs};
 
 // What a request comes to: the answer, and all of the state that it may alter, as it is after the request: the slots, and a file with its
 // number. For a caller whose state lives in a variable: it stores both there, and no state is copied.

@@ -6,8 +6,8 @@ use policy::State;
 ghost use mathlib.Core.Path.{_≡_};
 ghost use Prim.Native.Nat.{_<_};
 ghost use Rattle.policy.specs.State.{mostFiles};
+ghost use Rattle.policy.specs.Seen.{Seen, Of};
 ghost use Rattle.gate.specs.Effects.{after, Tells};
-ghost use Rattle.gate.specs.Parts.{Seen, Of};
 ghost use Rattle.machine.specs.Machine.{Step};
 ghost use Rattle.machine.specs.Served.{requestOf};
 

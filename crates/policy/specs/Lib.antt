@@ -7,3 +7,5 @@ pub mod Kept
 pub mod Fresh
 pub mod Reads
 pub mod One
+pub mod Seen
+pub mod SeenLaws

@@ -8,11 +8,10 @@ use native.Mathlib.Omega.{arith}
 use lib.ListN.{length}
 use Rattle.answer.specs.declared.Answer.{Answer}
 use Rattle.answer.specs.Numbers.{done, illFormed, bufferShort}
-use Rattle.answer.specs.Answers.{Is, Granted, Condition, must, Decides, DecidesAt, AllHold, Leaves}
-use Rattle.answer.specs.Lists.{granted-all}
+use Rattle.answer.specs.Answers.{Is, Granted, must, Decides, DecidesAt, AllHold, Leaves}
+use Rattle.answer.specs.Lists.{granted-all, granted-place, refusal-kept, then-second}
 use Rattle.writing.specs.Laws.{front-written}
 use Rattle.tree.specs.declared.Tree.{Tree}
-use Rattle.tree.specs.Tree.{Ready}
 use Rattle.expression.specs.Expression.{Expr}
 use Rattle.expression.specs.declared.Kind.the-variants.{Protection}
 use Rattle.expression.specs.Bytes.{bytes, longest}
@@ -64,28 +63,14 @@ module _ (s : State) (slot file : ℕ) (seen : Examined) (x : List ℕ) (room : 
       pub all-hold : longestText ≤ room → Is a done 0 → DecidesAt (printConditions s x room) 0 a
       all-hold h j = inr (v .says .0 ok, inr (in-order, inr (h, (j .number, j .place))))
 
-pub tree-ready : (s : State) (slot file : ℕ) (seen : Examined) → Examines s slot file seen → seen .ok ≡ true → Ready (seen .tree) (seen .levels)
-tree-ready s slot file seen v ok = let w = v .says .0 ok in rw (v .tree-is) (record { tree = w .tree; levels = v .levels w })
-
 -- ---- the answer and the output
--- a refusal is one whatever a grant names
-refusal-kept : (g h : ℕ → Type 0) (cs : List Condition) (a : Answer) → Decides cs g a → (Granted a → ⊥) → Decides cs h a
-refusal-kept g h [] a d n = absurd (n (d .0))
-refusal-kept g h (c ∷ cs) a (inl d) n = inl d
-refusal-kept g h (c ∷ cs) a (inr d) n = inr (d .0, refusal-kept g h cs a (d .1) n)
-
--- where all conditions hold, a grant is what they decide
-grant-decides : (g : ℕ → Type 0) (cs : List Condition) (a : Answer) → AllHold cs → Granted a → g (a .place) → Decides cs g a
-grant-decides g [] a h k p = (k, p)
-grant-decides g (c ∷ cs) a h k p = inr (h .0, grant-decides g cs a (h .1) k p)
-
 module _ (s : State) (x before : List ℕ) (a : Answer) (d : DecidesAt (printConditions s x (length before)) 0 a) where
   -- a refusal
   pub print-refused : {t : Bool} → (t ≡ true) ↔ Granted a → t ≡ false
       → Decides (printConditions s x (length before)) (printGrants x) a × Leaves a (printMakes x before) before before
   print-refused i f =
       let n : Granted a → ⊥ = λ g. false≢true (sym f ∙ i .1 g) in (
-        refusal-kept (λ k. k ≡ 0) (printGrants x) (printConditions s x (length before)) a d n,
+        refusal-kept (λ k. k ≡ 0) (printGrants x) a (printConditions s x (length before)) d n,
         record { on-grant = λ g. absurd (n g); on-refusal = λ _. refl },
       )
 
@@ -94,19 +79,13 @@ module _ (s : State) (x before : List ℕ) (a : Answer) (d : DecidesAt (printCon
     held = granted-all (λ k. k ≡ 0) a (printConditions s x (length before)) refl d g
 
     granted-at : a .place ≡ 0
-    granted-at = go d
-      where
-        go : DecidesAt (printConditions s x (length before)) 0 a → a .place ≡ 0
-        go (inl p) = absurd (omega (arith, p .1, g))
-        go (inr (p, inl q)) = absurd (omega (arith, q .1, g))
-        go (inr (p, inr (q, inl r))) = absurd (omega (arith, r .1, g))
-        go (inr (p, inr (q, inr (r, e)))) = e .1
+    granted-at = granted-place (λ k. k ≡ 0) a (printConditions s x (length before)) refl d g
 
     -- length 0 prints nothing
     pub print-empty : length x ≡ 0 → Decides (printConditions s x (length before)) (printGrants x) a × Leaves a (printMakes x before) before before
     print-empty e =
         let none : PrintOf x [] = subst (λ (y : List ℕ). PrintOf y []) (sym (nil-of x e)) of-nothing in (
-          grant-decides (printGrants x) (printConditions s x (length before)) a held g ([], none, granted-at),
+          then-second (printGrants x) a (printConditions s x (length before)) [] held (g, ([], none, granted-at)),
           record { on-grant = λ _. ([], none, refl); on-refusal = λ n. absurd (n g) },
         )
 
@@ -140,6 +119,6 @@ module _ (s : State) (x before : List ℕ) (a : Answer) (d : DecidesAt (printCon
           let e = expression .0 in
           let o = w e [] (expression .1 ∙ sym (append-nil (bytes e))) .1 in
           let is : PrintOf x (printed e) = subst (λ (y : List ℕ). PrintOf y (printed e)) (sym (expression .1)) (of-expression e) in (
-            grant-decides (printGrants x) (printConditions s x (length before)) b held (i .number) (printed e, is, i .place ∙ o .next ∙ omega arith),
+            then-second (printGrants x) b (printConditions s x (length before)) [] held (i .number, (printed e, is, i .place ∙ o .next ∙ omega arith)),
             record { on-grant = λ _. (printed e, is, front-written o); on-refusal = λ n. absurd (n (i .number)) },
           )

@@ -288,25 +288,28 @@ module _ {bs : List ℕ} {pair : Bool} {before : List ℕ} {at : ℕ} (w : Ahead
         right-written : paired rp (printed (op .b)) ≡ right-text
         right-written = ap (λ (b : Bool). paired b (printed (op .b))) right-pair
 
+        -- the room that is left for the right operand and the closing sign
+        left-over : q + (length right-text + length (bracketed pair closePair)) ≤ length m3
+        left-over =
+            omega (
+              arith,
+              shared,
+              O .next,
+              O .long,
+              ap length left-written,
+              left-done .1 .next,
+              left-done .1 .long,
+              S .next,
+              S .long,
+            )
+
         pub right-ahead : Ahead (from bs (1 + left .used)) rp m3 q
         right-ahead = record {
           expr = op .b;
           tail = _;
           is = right-is-now;
           joined = λ t. subst (λ (k : ℕ). 3 ≤ k) (sym (first-byte (op .b) _ right-is-now)) (only-joined (getD bs 0 0) true (op .b) c (sym right-pair ∙ t));
-          room =
-              omega (
-                arith,
-                shared,
-                O .next,
-                O .long,
-                ap length left-written,
-                left-done .1 .next,
-                left-done .1 .long,
-                S .next,
-                S .long,
-                ap length right-written,
-              );
+          room = omega (arith, left-over, ap length right-written);
         }
 
         -- so was the right operand
@@ -318,21 +321,7 @@ module _ {bs : List ℕ} {pair : Bool} {before : List ℕ} {at : ℕ} (w : Ahead
           right-within = omega (arith, left-done .0, right-done .0, op .long)
 
           pub close-room : RoomFor m4 (right .to) (bracketed pair closePair)
-          close-room =
-              omega (
-                arith,
-                shared,
-                O .next,
-                O .long,
-                ap length left-written,
-                left-done .1 .next,
-                left-done .1 .long,
-                S .next,
-                S .long,
-                ap length right-written,
-                right-done .1 .next,
-                right-done .1 .long,
-              )
+          close-room = omega (arith, left-over, ap length right-written, right-done .1 .next, right-done .1 .long)
 
           -- so was the closing sign: the whole is printed
           module _ {m5 : List ℕ} {to : ℕ} (s : sg ≡ signOf (getD bs 0 0)) (C : WrittenAt m4 (right .to) (bracketed pair closePair) m5 to) where

@@ -9,9 +9,6 @@ use Rattle.writing.specs.Writing.{WrittenAt, RoomFor}
 use Rattle.expression.specs.Expression.{Term, Expr, term}
 use Rattle.expression.specs.Bytes.{bytes}
 use Rattle.text.specs.Classes.{pick}
-use Rattle.policy.specs.declared.State.{State}
-use Rattle.policy.specs.declared.Examined.{Examined}
-use Rattle.policy.specs.WellFormed.{Examines}
 use Rattle.print.specs.declared.Printing.{Printing}
 use Rattle.print.specs.Print.{andSign, orSign, paired, printed}
 
@@ -52,11 +49,3 @@ pub record Ahead (bs : List ℕ) (pair : Bool) (out : List ℕ) (at : ℕ) : Typ
 abbrev pub PrintsFront : List ℕ → Bool → List ℕ → ℕ → List ℕ → Printing → Type 0
 PrintsFront bs pair before at after r =
     (e : Expr) (tail : List ℕ) → bs ≡ bytes e ++ tail → (r .used ≡ length (bytes e)) × WrittenAt before at (paired pair (printed e)) after (r .to)
-
--- some state was seen so at its examination
-abbrev pub SeenOnce : Examined → Type 0
-SeenOnce seen = (s : State) × (slot : ℕ) × (file : ℕ) × Examines s slot file seen
-
--- P holds of every state that is seen so at its examination, for whatever slot and file
-abbrev pub OfSeen : Examined → (State → Type 0) → Type 0
-OfSeen seen P = (s : State) (slot file : ℕ) → Examines s slot file seen → P s

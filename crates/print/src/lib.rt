@@ -18,9 +18,10 @@ ghost use Rattle.answer.specs.Answers.{Decides, DecidesAt, Leaves};
 ghost use Rattle.tree.specs.Tree.{Ready};
 ghost use Rattle.expression.specs.declared.Kind.the-variants.{Protection};
 ghost use Rattle.order.specs.Conditions.{inOrder};
+ghost use Rattle.policy.specs.Seen.{SeenOnce, OfEach};
 ghost use Rattle.print.specs.Print.{decimal as Print·decimal, rangeText, printConditions, printGrants, printMakes};
 ghost use Rattle.writing.specs.Writing.{WrittenAt, RoomFor};
-ghost use Rattle.print.specs.Writing.{SeenOnce, OfSeen, bracketed, needsPair, signOf, TermAhead, PrintsTerm, Ahead, PrintsFront};
+ghost use Rattle.print.specs.Writing.{bracketed, needsPair, signOf, TermAhead, PrintsTerm, Ahead, PrintsFront};
 
 // The room that a print needs, however short it is.
 const ROOM: usize = 512;
@@ -154,7 +155,7 @@ fn order_answer(tree: Tree, levels: Levels, x: &[u8]) -> Answer
 // 17, 6, 20, of the state that was seen so.
 fn print_answer(seen: Examined, x: &[u8], room: usize) -> Answer
     requires { ⌜ SeenOnce seen ⌝ }
-    ensures { λ r. ⌜ OfSeen seen (λ s. DecidesAt (printConditions s (now (x .entry)) room) 0 r) ⌝ }
+    ensures { λ r. ⌜ OfEach seen (λ s. DecidesAt (printConditions s (now (x .entry)) room) 0 r) ⌝ }
 {
     if !seen.ok {
         return Answer::of(answer::ILL_FORMED);
@@ -174,7 +175,7 @@ fn print_answer(seen: Examined, x: &[u8], room: usize) -> Answer
 // A print on the state that was seen so.
 pub fn print_seen(seen: Examined, x: &[u8], out: &mut [u8]) -> Answer
     requires { ⌜ SeenOnce seen ⌝ }
-    ensures { λ r. ⌜ OfSeen seen (λ s. Decides (printConditions s (now (x .entry)) (length (now (out .entry)))) (printGrants (now (x .entry))) r) ⌝ }
+    ensures { λ r. ⌜ OfEach seen (λ s. Decides (printConditions s (now (x .entry)) (length (now (out .entry)))) (printGrants (now (x .entry))) r) ⌝ }
     ensures { λ r. ⌜ Leaves r (printMakes (now (x .entry)) (now (out .entry))) (now (out .entry)) (now (out .exit)) ⌝ }
 {
     let answer = print_answer(seen, x, out.len());

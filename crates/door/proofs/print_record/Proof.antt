@@ -25,7 +25,7 @@ pack-requires c κs =
     let c₂ = c .before .before in
     let c₇ = c₂ .before .before .before .before .before in
     let w = c₇ .pre .2 in
-    let s = print-small (w .0) _ _ _ (c₂ .print-seen .ensures .0 (w .0) (w .1) (w .2) (w .3)) in
+    let s = print-small (w .1 .1 .0) _ _ _ (c₂ .print-seen .ensures .0 (w .0) (w .1 .0) (w .1 .1 .0) (w .1 .1 .1)) in
     (omega (arith, s .0), s .1)
 
 printed-by-requires : tie.Need-printed-by-requires
@@ -43,7 +43,7 @@ returns c =
     let c₂ = c₁ .before in
     let c₅ = c₂ .before .before .before in
     let p = c₅ .print-seen .ensures in
-    λ b slot file v. print-came b _ _ _ _ (p .0 (b .state) slot file v) (p .1) _ (c₂ .pack .ensures) _ _ (c₁ .printed-by .ensures)
+    λ b slot file v. print-came b _ _ _ _ (p .0 slot file (b .state) v) (p .1) _ (c₂ .pack .ensures) _ _ (c₁ .printed-by .ensures)
     (c .told .ensures b slot file v)
 
 pub print-record-spec : {M : Type 1} → statement M

@@ -45,7 +45,7 @@ print-record-requires c κs =
     let c₃ = c .before .before .before in
     let c₈ = c₃ .before .before .before .before .before in
     let inside = alone-inside _ _ (c₈ .read-alone .ensures) 0 in
-    (inside .0, inside .1, (_, _, _, c₃ .seen-in .ensures))
+    (inside .0, inside .1, (_, (_, (_, c₃ .seen-in .ensures))))
 
 same-length : tie.Need-same-length
 same-length c = search needs

@@ -1,5 +1,6 @@
 -- `gate::ask_seen` meets its contract: what was seen is given back. Assumes nothing.
-use Rattle.gate.proofs.Stages.{at-within, after-kept}
+use Rattle.policy.specs.SeenLaws.{at-within}
+use Rattle.gate.proofs.Stages.{after-kept}
 use borrow.Author.Needs.{needs}
 use Rattle.gate.proofs.ask_seen.Statement.{statement}
 use Rattle.gate.proofs.ask_seen.Tie as tie

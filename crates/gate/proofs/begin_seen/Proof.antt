@@ -7,7 +7,8 @@ use Rattle.policy.specs.State.{By}
 use Rattle.policy.specs.WellFormed.{Examines}
 use Rattle.gate.specs.Granted.{BeginGranted}
 use Rattle.gate.specs.Laws.{begin-granted}
-use Rattle.gate.proofs.Stages.{at-within, after-kept, after-hold, tells-granted, tells-refused}
+use Rattle.policy.specs.SeenLaws.{at-within}
+use Rattle.gate.proofs.Stages.{after-kept, after-hold, tells-granted, tells-refused}
 use borrow.Author.Needs.{needs}
 use Rattle.gate.proofs.begin_seen.Statement.{statement}
 use Rattle.gate.proofs.begin_seen.Tie as tie

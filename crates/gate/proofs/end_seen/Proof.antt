@@ -3,7 +3,8 @@ use mathlib.Core.Path.{refl}
 use Rattle.logic.specs.Iff.{not-then-false}
 use Rattle.policy.specs.State.{Free}
 use Rattle.gate.specs.Laws.{end-granted}
-use Rattle.gate.proofs.Stages.{at-within, after-kept, after-hold, tells-granted, tells-refused}
+use Rattle.policy.specs.SeenLaws.{at-within}
+use Rattle.gate.proofs.Stages.{after-kept, after-hold, tells-granted, tells-refused}
 use borrow.Author.Needs.{needs}
 use Rattle.gate.proofs.end_seen.Statement.{statement}
 use Rattle.gate.proofs.end_seen.Tie as tie

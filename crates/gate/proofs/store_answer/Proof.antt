@@ -10,7 +10,8 @@ use Rattle.policy.specs.State.{changeProtection}
 use Rattle.policy.specs.WellFormed.{Examines}
 use Rattle.gate.specs.Requests.{rowConditions}
 use Rattle.gate.specs.Laws.{shown}
-use Rattle.gate.proofs.Stages.{ready, stands, then-next}
+use Rattle.policy.specs.SeenLaws.{ready}
+use Rattle.gate.proofs.Stages.{stands, then-next}
 use borrow.Author.Needs.{needs}
 use Rattle.gate.proofs.store_answer.Statement.{statement}
 use Rattle.gate.proofs.store_answer.Tie as tie

@@ -9,7 +9,7 @@ examine-requires c κs = search needs
 print-seen-requires : tie.Need-print-seen-requires
 print-seen-requires c κs =
     let c₁ = c .before in
-    (_, _, _, c₁ .examine .ensures)
+    (_, (_, (_, c₁ .examine .ensures)))
 
 same-length : tie.Need-same-length
 same-length c = search needs

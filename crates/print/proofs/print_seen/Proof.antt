@@ -20,9 +20,10 @@ returns c =
     let x = c₅ .args .x .now in
     let o = c₅ .args .out .now in
     let d = c₂ .print-answer .ensures in
+    let once = d (w .0) (w .1 .0) (w .1 .1 .0) (w .1 .1 .1) in
     let i = c₁ .granted .ensures in
     let n = not-true _ (c .if1 .taken) in
-    ((λ s slot file v. print-refused s x o _ (d s slot file v) i n .0), print-refused (w .0) x o _ (d (w .0) (w .1) (w .2) (w .3)) i n .1)
+    ((λ slot file s v. print-refused s x o _ (d slot file s v) i n .0), print-refused (w .1 .1 .0) x o _ once i n .1)
 
 returns-2 : tie.Need-returns-2
 returns-2 c =
@@ -34,9 +35,10 @@ returns-2 c =
     let x = c₆ .args .x .now in
     let o = c₆ .args .out .now in
     let d = c₃ .print-answer .ensures in
+    let once = d (w .0) (w .1 .0) (w .1 .1 .0) (w .1 .1 .1) in
     let g = c₂ .granted .ensures .0 (not-false _ (c₁ .if1 .left)) in
     let e = c .if2 .taken in
-    ((λ s slot file v. print-empty s x o _ (d s slot file v) g e .0), print-empty (w .0) x o _ (d (w .0) (w .1) (w .2) (w .3)) g e .1)
+    ((λ slot file s v. print-empty s x o _ (d slot file s v) g e .0), print-empty (w .1 .1 .0) x o _ once g e .1)
 
 print-front-requires : tie.Need-print-front-requires
 print-front-requires c κs =
@@ -49,7 +51,8 @@ print-front-requires c κs =
     let x = c₇ .args .x .now in
     let o = c₇ .args .out .now in
     let d = c₄ .print-answer .ensures in
-    print-ahead (w .0) x o _ (d (w .0) (w .1) (w .2) (w .3)) (c₃ .granted .ensures .0 (not-false _ (c₂ .if1 .left))) (c₁ .if2 .left)
+    let once = d (w .0) (w .1 .0) (w .1 .1 .0) (w .1 .1 .1) in
+    print-ahead (w .1 .1 .0) x o _ once (c₃ .granted .ensures .0 (not-false _ (c₂ .if1 .left))) (c₁ .if2 .left)
 
 at-requires : tie.Need-at-requires
 at-requires c κs = search needs
@@ -69,11 +72,12 @@ returns-3 c =
     let x = c₁₁ .args .x .now in
     let o = c₁₁ .args .out .now in
     let d = c₈ .print-answer .ensures in
+    let once = d (w .0) (w .1 .0) (w .1 .1 .0) (w .1 .1 .1) in
     let g = c₇ .granted .ensures .0 (not-false _ (c₆ .if1 .left)) in
     let f = c₅ .if2 .left in
     let p = c₃ .print-front .ensures in
     let i = c .at .ensures in
-    ((λ s slot file v. print-done s x o _ (d s slot file v) g f p i .0), print-done (w .0) x o _ (d (w .0) (w .1) (w .2) (w .3)) g f p i .1)
+    ((λ slot file s v. print-done s x o _ (d slot file s v) g f p i .0), print-done (w .1 .1 .0) x o _ once g f p i .1)
 
 pub print-seen-spec : {M : Type 1} → statement M
 print-seen-spec =
