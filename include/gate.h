@@ -105,7 +105,7 @@ static inline const char *gate_words(uint32_t number) {
 
 /* ---- Rooms and limits ---------------------------------------------------------------------- */
 
-/* The modes, and how many there are. */
+/* The modes, and how many there are. Read and Execute take content out: running is reading. */
 #define GATE_READ 0
 #define GATE_WRITE 1
 #define GATE_EXECUTE 2
@@ -286,7 +286,12 @@ static inline gate_answer gate_end(gate_box *box, size_t slot) {
     return gate_call(box, record, sizeof record);
 }
 
-/* Whether the session on a slot may act so on a file: granted, or why not. Alters nothing. */
+/*
+ * Whether the session on a slot may act so on a file: granted, or why not. Alters nothing. The role
+ * has to pass the file's row of that mode (14). What takes content out, Read and Execute, needs E of
+ * the file's Read row within its M1 and G within its M2; Write needs M1 within that E and M2 within
+ * that G (15).
+ */
 static inline gate_answer gate_ask(gate_box *box, size_t slot, size_t file, size_t mode) {
     const uint8_t record[4] = {GATE_ASK, gate_byte(slot), gate_byte(file), gate_byte(mode)};
     return gate_call(box, record, sizeof record);

@@ -1,12 +1,14 @@
 -- Demand 2, in the user's words: "Each answer and each new state is the one that chapter 2 of Rabin and Tygar's toolkit report gives, as our first paper
 -- fixes it: granted exactly when the rules grant, refused with that number exactly when they say so. A protection means its full set of sets, also where
--- nobody could write that set out." Below, each sentence is followed by its theorems. Assumes nothing.
+-- nobody could write that set out." The rules are those of 01 and, for Execute, of 02's [2] ("Demand 2 reads with this rule"). Below, each sentence is
+-- followed by its theorems. Assumes nothing.
 use mathlib.Core.Path.{_≡_, refl}
 use mathlib.Core.Bool.{true}
 use mathlib.Core.List.{List}
 use mathlib.Core.Logic.{_↔_, inl, inr}
 use Prim.Native.Nat.{ℕ, zero, suc, _<_}
 use native.Mathlib.Omega.{arith}
+use lib.Dec.{lit<}
 use lib.ListN.{length}
 use Rattle.answer.specs.declared.Answer.{Answer}
 use Rattle.answer.specs.Answers.{Condition, Decides, Granted, Is, AllHold, FirstFails, Leaves}
@@ -25,6 +27,7 @@ use Rattle.text.specs.Laws.{text-places}
 use Rattle.print.specs.Print.{printConditions, printGrants, printMakes}
 use Rattle.print.specs.Laws.{print-places}
 use Rattle.rules.specs.Rules.{Passes, Mediates}
+use Rattle.rules.specs.Laws.{over-execute, out-fits, write-fits, other-fits}
 use Rattle.gate.specs.Requests.{beginConditions, endConditions, askConditions, changeConditions, bypassConditions}
 use Rattle.gate.specs.Requests.{Outcome, Does, Begins, Ends, Asks, Changes, Bypasses}
 use Rattle.gate.specs.Granted.{SessionGranted, BeginGranted, AskGranted, ChangeGranted, BypassGranted}
@@ -153,9 +156,9 @@ module _ (s : State) (slot : ℕ) (r : Outcome) where
     ask-granted-exactly d = (λ g. needed mode (ask-granted s slot (r .answer) file mode (d .decides) g), enough)
       where
         may : (m : ℕ) → m < 5 → Passes s (roleOf s slot) file m → Mediates s (roleOf s slot) file m → MayAct s slot file m
-        may zero h p q = by-reading (record { passes = p; e-within-m1 = q .e-in-m1 refl; g-within-m2 = q .g-in-m2 refl })
+        may zero h p q = by-reading (record { passes = p; e-within-m1 = q .e-in-m1 (inl refl); g-within-m2 = q .g-in-m2 (inl refl) })
         may (suc zero) h p q = by-writing (record { passes = p; m1-within-e = q .m1-in-e refl; m2-within-g = q .m2-in-g refl })
-        may (suc (suc zero)) h p q = by-executing p
+        may (suc (suc zero)) h p q = by-executing (record { passes = p; e-within-m1 = q .e-in-m1 (inr refl); g-within-m2 = q .g-in-m2 (inr refl) })
         may (suc (suc (suc zero))) h p q = by-detecting p
         may (suc (suc (suc (suc zero)))) h p q = by-changing p
         may (suc (suc (suc (suc (suc m))))) h p q = absurd (omega arith)
@@ -173,36 +176,12 @@ module _ (s : State) (slot : ℕ) (r : Outcome) where
               may = may m (row .is-mode) (row .passes) (h .mediates);
             }
 
-        other : (m : ℕ) → (m ≡ read → ⊥) → (m ≡ write → ⊥) → Mediates s (roleOf s slot) file m
-        other m nr nw = record {
-          e-in-m1 = λ e. absurd (nr e);
-          g-in-m2 = λ e. absurd (nr e);
-          m1-in-e = λ e. absurd (nw e);
-          m2-in-g = λ e. absurd (nw e);
-        }
-
         acts : (m : ℕ) → MayAct s slot file m → Passes s (roleOf s slot) file m × Mediates s (roleOf s slot) file m
-        acts m (by-reading h) = (
-          h .passes,
-          record {
-            e-in-m1 = λ _. h .e-within-m1;
-            g-in-m2 = λ _. h .g-within-m2;
-            m1-in-e = λ e. absurd (omega arith);
-            m2-in-g = λ e. absurd (omega arith);
-          },
-        )
-        acts m (by-writing h) = (
-          h .passes,
-          record {
-            e-in-m1 = λ e. absurd (omega arith);
-            g-in-m2 = λ e. absurd (omega arith);
-            m1-in-e = λ _. h .m1-within-e;
-            m2-in-g = λ _. h .m2-within-g;
-          },
-        )
-        acts m (by-executing p) = (p, other m (λ e. omega arith) (λ e. omega arith))
-        acts m (by-detecting p) = (p, other m (λ e. omega arith) (λ e. omega arith))
-        acts m (by-changing p) = (p, other m (λ e. omega arith) (λ e. omega arith))
+        acts m (by-reading h) = (h .passes, out-fits (inl refl) .0 (h .e-within-m1, h .g-within-m2))
+        acts m (by-writing h) = (h .passes, write-fits refl .0 (h .m1-within-e, h .m2-within-g))
+        acts m (by-executing h) = (h .passes, out-fits (inr refl) .0 (h .e-within-m1, h .g-within-m2))
+        acts m (by-detecting p) = (p, other-fits (λ e. omega arith) (over-execute (lit< tt)))
+        acts m (by-changing p) = (p, other-fits (λ e. omega arith) (over-execute (lit< tt)))
 
         enough : AskNeeds s slot file mode → Granted (r .answer)
         enough h =

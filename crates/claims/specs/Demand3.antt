@@ -1,7 +1,7 @@
 -- Demand 3, in the user's words: "Take any sequence of requests after a granted load, with no later load and no bypass change granted in it. Then every
 -- indelible part is still the loaded one. And if content could have moved from one file to another, by sessions that each read a file and later wrote the
--- next, any number of files long, then nobody passes the indelible read conditions of the last file without passing those of the first."
--- Below, each sentence is followed by its theorem. Assumes nothing.
+-- next, any number of files long, then nobody passes the indelible read conditions of the last file without passing those of the first." And 02's [2]: "in
+-- demand 3 content moves by a granted Read or Execute, then a Write." Below, each sentence is followed by its theorem. Assumes nothing.
 use mathlib.Core.Path.{_≡_, ap, _∙_}
 use mathlib.Core.List.{List}
 use Prim.Native.Nat.{ℕ}
@@ -52,7 +52,7 @@ module _ {loaded present : State} {es : List GateEvent} (w : AfterLoad loaded pr
 
   -- "And if content could have moved from one file to another, by sessions that each read a file and later wrote the next, any number of files long, then
   -- nobody passes the indelible read conditions of the last file without passing those of the first.": whoever has V+, V-, M1, M2, of a loaded role or
-  -- not; the conditions are judged in the loaded state
+  -- not; to run a file is to read it; the conditions are judged in the loaded state
   pub nobody-reads-the-last-without-the-first : {a b : ℕ} → Reached es a b → (vPlus vMinus m1 m2 : Set)
       → PassesIndelible loaded b vPlus vMinus m1 m2 → PassesIndelible loaded a vPlus vMinus m1 m2
   nobody-reads-the-last-without-the-first r = passes-first (reached-confines (w .then) (w .quiet) r)

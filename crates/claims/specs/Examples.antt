@@ -1,11 +1,14 @@
 -- Examples, proved, from the load of the sample's image: the setting of demand 3 is met, with content that moves; sessions have to be told apart; the claim
--- would be false with the mutable parts in it; and a granted bypass can break it, judged in the loaded state and in the present one. Assumes nothing.
+-- would be false with the mutable parts in it; a granted bypass can break it, judged in the loaded state and in the present one; and it would be false if
+-- an Execute were granted by its row alone. Assumes nothing.
 use mathlib.Core.Path.{_≡_, refl, sym, ap, _∙_, subst}
 use mathlib.Core.List.{List, [], _∷_}
 use mathlib.Core.Logic.{_⊎_, inl, inr, ⊎-elim}
 use Prim.Native.Nat.{ℕ, _<_}
 use lib.Dec.{lit<, lit≤}
 use native.Mathlib.Omega.{arith}
+use Rattle.answer.specs.declared.Answer.{Answer}
+use Rattle.answer.specs.Numbers.{mediatingUnfit}
 use Rattle.securon.specs.Sets.{Set, empty, _⊆_}
 use Rattle.tree.specs.declared.Tree.{Tree}
 use Rattle.expression.specs.Expression.{one, term, Meets}
@@ -14,20 +17,23 @@ use Rattle.expression.specs.Bytes.{SET, MeetsT1, InOrder}
 use Rattle.expression.specs.Laws.{meets-term}
 use Rattle.expression.specs.Scan.{bytes-some}
 use Rattle.expression.specs.Unique.{one-expression}
-use Rattle.policy.specs.State.{IsMode, read, write, changeProtection, Free, By, roleIn, roleOf, holdOf, freshState}
+use Rattle.policy.specs.State.{IsMode, read, write, execute, changeProtection, Free, By, roleIn, roleOf, holdOf, freshState}
 use Rattle.policy.specs.State.{withHold, withEG, t1Of, eOf, t2Of, gOf}
 use Rattle.policy.specs.declared.State.{State}
 use Rattle.policy.specs.WellFormed.{WellFormed}
 use Rattle.policy.specs.Whole.{free-held}
 use Rattle.policy.specs.Kept.{by-kept, free-kept, eg-kept}
 use Rattle.policy.specs.Reads.{hold-here}
-use Rattle.rules.specs.Rules.{PassesRow, Passes, Mediates, Covers}
+use Rattle.rules.specs.Rules.{PassesRow, Passes, TakesContentOut, Mediates, Covers}
+use Rattle.rules.specs.Laws.{out-fits, write-fits}
 use Rattle.gate.specs.Granted.{SessionGranted, RowGranted, BypassGranted}
-use Rattle.machine.specs.Runs.{none, next}
+use Rattle.gate.specs.Requests.{mediated}
+use Rattle.machine.specs.Runs.{Run, none, next}
 use Rattle.machine.specs.Machine.{load, begin, end, ask, bypass, Step, GateEvent, GateRun}
-use Rattle.claims.specs.Trace.{Quiet, by-read, by-write, Move, PassesIndelible}
+use Rattle.claims.specs.Trace.{Quiet, TakesOut, by-ask, by-write, Move, PassesIndelible}
+use Rattle.claims.specs.Before.{mediatedBefore, StepBefore}
 use Rattle.claims.specs.Demand3.{AfterLoad}
-use Rattle.claims.specs.Steps.{granted, done, begin-step, end-step, ask-step, bypass-step}
+use Rattle.claims.specs.Steps.{granted, done, made, row-holds, begin-step, end-step, ask-step, bypass-step}
 use Rattle.claims.specs.MoveLaws.{move-confines}
 use Rattle.claims.specs.Sample.{root, sampleImage, sample, sample-loads, sample-well-formed, sample-depth, sample-root, sample-free, sample-counts}
 use Rattle.claims.specs.Sample.{freed-again, RoleParts, FileParts, sample-role0, sample-role1, sample-role2}
@@ -69,26 +75,19 @@ module _ {s : State} {role file : ℕ} {v m b t e : List ℕ} (r : RoleParts s r
   reads-row p = rw (r .v-plus, r .v-minus, f .t1, f .e, f .t2, f .g) p
 
   writes-row : Passes s role file write
-  writes-row = rw (r .v-plus-write, r .v-minus-write, f .t1-write, f .e-write, f .t2-write, f .g-write) (empty-row (s .tree) _ _)
+  writes-row = rw (r .other-plus .0, r .other-minus .0, f .other-t1 .0, f .other-e .0, f .other-t2 .0, f .other-g .0) (empty-row (s .tree) _ _)
+
+  executes-row : Passes s role file execute
+  executes-row = rw (r .other-plus .1, r .other-minus .1, f .other-t1 .1, f .other-e .1, f .other-t2 .1, f .other-g .1) (empty-row (s .tree) _ _)
 
   pub changes-row : Passes s role file changeProtection
-  changes-row = rw (r .v-plus-change, r .v-minus-change, f .t1-change, f .e-change, f .t2-change, f .g-change) (empty-row (s .tree) _ _)
+  changes-row = rw (r .other-plus .2, r .other-minus .2, f .other-t1 .2, f .other-e .2, f .other-t2 .2, f .other-g .2) (empty-row (s .tree) _ _)
 
-  reads-mediated : SET (s .tree) e ⊆ SET (s .tree) m → Mediates s role file read
-  reads-mediated h = record {
-    e-in-m1 = λ _. rw (r .m1, f .e) h;
-    g-in-m2 = λ _. rw (r .m2, f .g) (λ u x. x);
-    m1-in-e = λ z. absurd (omega arith);
-    m2-in-g = λ z. absurd (omega arith);
-  }
+  out-mediated : {mode : ℕ} → TakesContentOut mode → SET (s .tree) e ⊆ SET (s .tree) m → Mediates s role file mode
+  out-mediated o h = out-fits o .0 (rw (r .m1, f .e) h, rw (r .m2, f .g) (λ u x. x))
 
   writes-mediated : SET (s .tree) m ⊆ SET (s .tree) e → Mediates s role file write
-  writes-mediated h = record {
-    e-in-m1 = λ z. absurd (omega arith);
-    g-in-m2 = λ z. absurd (omega arith);
-    m1-in-e = λ _. rw (r .m1, f .e) h;
-    m2-in-g = λ _. rw (r .m2, f .g) (λ u x. x);
-  }
+  writes-mediated h = write-fits refl .0 (rw (r .m1, f .e) h, rw (r .m2, f .g) (λ u x. x))
 
 -- a state with four files in which slot 0 is held by the role
 pub record InSession (s : State) (role : ℕ) : Type 0 where
@@ -118,7 +117,10 @@ module _ {s : State} {role : ℕ} (h : InSession s role) where
     module _ {v m b t e : List ℕ} (r : RoleParts s role v m b) (f : FileParts s file t e) where
       asked-read : PassesRow (s .tree) (SET (s .tree) v) (SET (s .tree) []) t e [] [] → SET (s .tree) e ⊆ SET (s .tree) m
           → Step s (ask 0 file read) granted s
-      asked-read p q = asked read (lit< tt) (reads-row r f p) (reads-mediated r f q)
+      asked-read p q = asked read (lit< tt) (reads-row r f p) (out-mediated r f (inl refl) q)
+
+      asked-execute : SET (s .tree) e ⊆ SET (s .tree) m → Step s (ask 0 file execute) granted s
+      asked-execute q = asked execute (lit< tt) (executes-row r f) (out-mediated r f (inr refl) q)
 
       asked-write : SET (s .tree) m ⊆ SET (s .tree) e → Step s (ask 0 file write) granted s
       asked-write q = asked write (lit< tt) (writes-row r f) (writes-mediated r f q)
@@ -162,47 +164,65 @@ after-load r q = record {
   quiet = q;
 }
 
--- a session of that role reads a and then writes b, and then come other requests
-abbrev pub readThenWrite : ℕ → ℕ → ℕ → List GateEvent → List GateEvent
-readThenWrite role a b later = done sample (begin 0 role) ∷ done (heldBy role) (ask 0 a read) ∷ done (heldBy role) (ask 0 b write) ∷ later
+-- a session of that role takes content out of a by an ask for that mode, then writes b, and then come other requests
+abbrev pub outThenWrite : ℕ → ℕ → ℕ → ℕ → List GateEvent → List GateEvent
+outThenWrite mode role a b later =
+    done sample (begin 0 role) ∷ done (heldBy role) (ask 0 a mode) ∷ done (heldBy role) (ask 0 b write) ∷ later
 
-read-then-write-moves : (role a b : ℕ) (later : List GateEvent) → Move (readThenWrite role a b later) a b
-read-then-write-moves role a b later = record {
+out-then-write-moves : (mode role a b : ℕ) (later : List GateEvent) → TakesOut (done (heldBy role) (ask 0 a mode)) 0
+    → Move (outThenWrite mode role a b later) a b
+out-then-write-moves mode role a b later o = record {
   slot = 0;
   earlier = done sample (begin 0 role) ∷ [];
-  takes = done (heldBy role) (ask 0 a read);
+  takes = done (heldBy role) (ask 0 a mode);
   between = [];
   puts = done (heldBy role) (ask 0 b write);
   later = later;
   in-order = refl;
-  takes-out = by-read (record { was = refl; granted = refl });
+  takes-out = o;
   from-a = refl;
   puts-in = by-write (record { was = refl; granted = refl });
   to-b = refl;
   not-ended = tt;
 }
 
--- ---- 1. The setting of demand 3 is met, and content moves in it: from file 0 to file 1, both with E = {0}
-abbrev pub oneMove : List GateEvent
-oneMove = readThenWrite 0 0 1 []
+-- a granted Read takes content out, and so does a granted Execute
+by-read : {s : State} {file : ℕ} → TakesOut (done s (ask 0 file read)) 0
+by-read = by-ask (inl refl) (record { was = refl; granted = refl })
 
-then-run : (later : List GateEvent) (t : State) → GateRun (heldBy 0) later t → GateRun sample (readThenWrite 0 0 1 later) t
-then-run later t r =
-    let h = held-is 0 (lit< tt) in
-    let role = held-role 0 sample-role0 in
-    next (begun 0 (lit< tt))
-    (next (asked-read h 0 (lit< tt) role (held-file 0 sample-file0) (e-row _ _) (λ u x. x))
-    (next (asked-write h 1 (lit< tt) role (held-file 0 sample-file1) (λ u x. x))
-    r))
+by-execute : {s : State} {file : ℕ} → TakesOut (done s (ask 0 file execute)) 0
+by-execute = by-ask (inr refl) (record { was = refl; granted = refl })
 
-pub record ContentMovesAfterALoad : Type 0 where
-  pub after : AfterLoad sample (heldBy 0) oneMove
-  pub moved : Move oneMove 0 1
+-- ---- 1. The setting of demand 3 is met, and content moves in it by a Read and by an Execute: from file 0 to file 1, both with E = {0}
+abbrev pub oneMove : ℕ → List GateEvent
+oneMove mode = outThenWrite mode 0 0 1 []
 
-pub content-moves-after-a-load : ContentMovesAfterALoad
+out-then-run : (mode : ℕ) → Step (heldBy 0) (ask 0 0 mode) granted (heldBy 0) → (later : List GateEvent) (t : State) → GateRun (heldBy 0) later t
+    → GateRun sample (outThenWrite mode 0 0 1 later) t
+out-then-run mode out later t r =
+    let writes = asked-write (held-is 0 (lit< tt)) 1 (lit< tt) (held-role 0 sample-role0) (held-file 0 sample-file1) (λ u x. x) in
+    next (begun 0 (lit< tt)) (next out (next writes r))
+
+reads-first : Step (heldBy 0) (ask 0 0 read) granted (heldBy 0)
+reads-first = asked-read (held-is 0 (lit< tt)) 0 (lit< tt) (held-role 0 sample-role0) (held-file 0 sample-file0) (e-row _ _) (λ u x. x)
+
+executes-first : Step (heldBy 0) (ask 0 0 execute) granted (heldBy 0)
+executes-first = asked-execute (held-is 0 (lit< tt)) 0 (lit< tt) (held-role 0 sample-role0) (held-file 0 sample-file0) (λ u x. x)
+
+pub record ContentMovesAfterALoad (mode : ℕ) : Type 0 where
+  pub after : AfterLoad sample (heldBy 0) (oneMove mode)
+  pub moved : Move (oneMove mode) 0 1
+
+pub content-moves-after-a-load : ContentMovesAfterALoad read
 content-moves-after-a-load = record {
-  after = after-load (then-run [] (heldBy 0) none) ((λ g r. r), ((λ g r. r), ((λ g r. r), tt)));
-  moved = read-then-write-moves 0 0 1 [];
+  after = after-load (out-then-run read reads-first [] (heldBy 0) none) ((λ g r. r), ((λ g r. r), ((λ g r. r), tt)));
+  moved = out-then-write-moves read 0 0 1 [] by-read;
+}
+
+pub content-moves-by-an-execute : ContentMovesAfterALoad execute
+content-moves-by-an-execute = record {
+  after = after-load (out-then-run execute executes-first [] (heldBy 0) none) ((λ g r. r), ((λ g r. r), ((λ g r. r), tt)));
+  moved = out-then-write-moves execute 0 0 1 [] by-execute;
 }
 
 -- ---- 2. Sessions have to be told apart: slot 0's old session read file 0, and its new session writes file 2
@@ -231,7 +251,7 @@ two-sessions-run =
     let free = hold-here (heldBy 0) (h .well-formed .room) 0 Free (lit< tt) in
     let again = begin-step ended 0 still (lit< tt) 1 free (rw (sample-counts .0) (lit< tt)) in
     next (begun 0 (lit< tt))
-    (next (asked-read h 0 (lit< tt) (held-role 0 sample-role0) (held-file 0 sample-file0) (e-row _ _) (λ u x. x))
+    (next reads-first
     (next (end-step (heldBy 0) 0 (session h))
     (next (subst (Step ended (begin 0 1) granted) (freed-again 0 1) again)
     (next (asked-write (held-is 1 (lit< tt)) 2 (lit< tt) (held-role 1 sample-role1) (held-file 1 sample-file2) (λ u x. x))
@@ -255,8 +275,8 @@ abbrev pub PassesReadRow : State → ℕ → Set → Set → Type 0
 PassesReadRow s file vPlus vMinus = PassesRow (s .tree) vPlus vMinus (t1Of s file read) (eOf s file read) (t2Of s file read) (gOf s file read)
 
 pub record MutablePartsWouldBreakIt : Type 0 where
-  pub after : AfterLoad sample (heldBy 2) (readThenWrite 2 3 2 [])
-  pub moved : Move (readThenWrite 2 3 2 []) 3 2
+  pub after : AfterLoad sample (heldBy 2) (outThenWrite read 2 3 2 [])
+  pub moved : Move (outThenWrite read 2 3 2 []) 3 2
   pub last-passed : PassesReadRow sample 2 empty empty
   pub first-not-passed : PassesReadRow sample 3 empty empty → ⊥
 
@@ -271,7 +291,7 @@ mutable-parts-have-no-say =
     none)) in
     record {
       after = after-load run ((λ g r. r), ((λ g r. r), ((λ g r. r), tt)));
-      moved = read-then-write-moves 2 3 2 [];
+      moved = out-then-write-moves read 2 3 2 [] by-read;
       last-passed = rw (sample-file2 .t1, sample-file2 .e, sample-file2 .t2, sample-file2 .g) (empty-row (sample .tree) empty empty);
       first-not-passed = λ p. unmet (rw (sample-file3 .t1) at (p .meets-t1));
     }
@@ -363,7 +383,7 @@ a-bypass-breaks-it-for-the-loaded-state =
         puts = done raised (ask 0 2 write);
         later = [];
         in-order = refl;
-        takes-out = by-read (record { was = refl; granted = refl });
+        takes-out = by-read;
         from-a = refl;
         puts-in = by-write (record { was = refl; granted = refl });
         to-b = refl;
@@ -375,7 +395,7 @@ a-bypass-breaks-it-for-the-loaded-state =
 
 -- judged in the present state: content moves from file 0 to file 1, both with E = {0}, and then file 1's E is taken away
 abbrev pub bypassedAfter : List GateEvent
-bypassedAfter = readThenWrite 0 0 1 (done (heldBy 0) (bypass 0 1 read [] []) ∷ [])
+bypassedAfter = outThenWrite read 0 0 1 (done (heldBy 0) (bypass 0 1 read [] []) ∷ [])
 
 pub record ABypassBreaksItForThePresentState : Type 0 where
   pub loads : Step freshState (load sampleImage) granted sample
@@ -390,8 +410,59 @@ a-bypass-breaks-it-for-the-present-state =
     (covered 1 (lit< tt) (held-file 0 sample-file1) [] (inl refl) (inr refl)) in
     record {
       loads = sample-loads;
-      run = then-run _ lowered (next lowering none);
-      moved = read-then-write-moves 0 0 1 _;
+      run = out-then-run read reads-first _ lowered (next lowering none);
+      moved = out-then-write-moves read 0 0 1 _ by-read;
       last-passed = passes-empty lowered 1 (lowered-file1 .e) (lowered-file1 .g);
       first-not-passed = fails-root lowered 0 (lowered-file0 .e);
     }
+
+-- ---- 5. By the row alone, as 01 had it for Execute before 02's [2], the claim would be false
+-- role 1, with nothing, runs file 0, whose Read row has E = {0}, and writes file 2, which nobody needs anything to read
+abbrev pub oneExecute : List GateEvent
+oneExecute = outThenWrite execute 1 0 2 []
+
+abbrev pub unfit : Answer
+unfit = record { number = mediatingUnfit; place = 0 }
+
+pub record AnExecuteWouldBreakIt : Type 0 where
+  pub loads : Step freshState (load sampleImage) granted sample
+  pub run-before : Run StepBefore sample oneExecute (heldBy 1)
+  pub quiet : Quiet oneExecute
+  pub moved : Move oneExecute 0 2
+  pub last-passed : PassesWithNothing sample 2
+  pub first-not-passed : PassesWithNothing sample 0 → ⊥
+  -- and so it is refused now, with 15
+  pub refused-now : Step (heldBy 1) (ask 0 0 execute) unfit (heldBy 1)
+
+pub by-the-row-alone-it-would-be-false : AnExecuteWouldBreakIt
+by-the-row-alone-it-would-be-false =
+    let h = held-is 1 (lit< tt) in
+    let role = held-role 1 sample-role1 in
+    let runs = row h 0 (lit< tt) execute execute (lit< tt) (executes-row role (held-file 1 sample-file0)) in
+    let writes = row h 2 (lit< tt) write write (lit< tt) (writes-row role (held-file 1 sample-file2)) in
+    let fits = its h (λ r. Mediates (heldBy 1) r 2 write) (writes-mediated role (held-file 1 sample-file2) (λ u x. x)) in
+    let ran : StepBefore (heldBy 1) (ask 0 0 execute) granted (heldBy 1) =
+    record { decides = row-holds (mediatedBefore (heldBy 1) 0 0 execute ∷ []) runs (inr (inl refl, (refl, refl))); leaves = made _ _ } in
+    let wrote : StepBefore (heldBy 1) (ask 0 2 write) granted (heldBy 1) =
+    record { decides = row-holds (mediatedBefore (heldBy 1) 0 2 write ∷ []) writes (inr (inr fits, (refl, refl))); leaves = made _ _ } in
+    record {
+      loads = sample-loads;
+      run-before =
+          next {e = done sample (begin 0 1)} (begun 1 (lit< tt))
+          (next {e = done (heldBy 1) (ask 0 0 execute)} ran
+          (next {e = done (heldBy 1) (ask 0 2 write)} wrote
+          none));
+      quiet = ((λ g r. r), ((λ g r. r), ((λ g r. r), tt)));
+      moved = out-then-write-moves execute 1 0 2 [] by-execute;
+      last-passed = passes-empty sample 2 (sample-file2 .e) (sample-file2 .g);
+      first-not-passed = fails-root sample 0 (sample-file0 .e);
+      refused-now = record {
+        decides = row-holds (mediated (heldBy 1) 0 0 execute ∷ []) runs (inl (unmediated h, refl, refl));
+        leaves = record { on-grant = λ g. refl; on-refusal = λ n. refl };
+      };
+    }
+  where
+    unmediated : InSession (heldBy 1) 1 → Mediates (heldBy 1) (roleOf (heldBy 1) 0) 0 execute → ⊥
+    unmediated h q =
+        let m = subst (λ (r : ℕ). Mediates (heldBy 1) r 0 execute) (ap roleIn (h .held)) q in
+        nobody (sample .tree) 0 (rw (sample-role1 .m1) at (m .e-in-m1 (inr refl) 0 (rw (sample-file0 .e) (zero-in (sample .tree)))))

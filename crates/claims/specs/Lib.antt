@@ -11,6 +11,7 @@ pub mod MoveLaws
 pub mod ReplayedLaws
 pub mod StarredLaws
 pub mod Steps
+pub mod Before
 pub mod Sample
 pub mod Examples
 pub mod Programs

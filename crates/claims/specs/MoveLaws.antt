@@ -10,13 +10,13 @@ use Rattle.policy.specs.declared.Role.{Role}
 use Rattle.policy.specs.declared.State.{State}
 use Rattle.policy.specs.State.{read, write, By, roleIn, roleOf, holdOf, eOf, gOf, m1Of, m2Of, rolePart, m1Place, m2Place, offRole}
 use Rattle.policy.specs.Whole.{session-holds}
-use Rattle.rules.specs.Rules.{Mediates}
+use Rattle.rules.specs.Rules.{TakesContentOut, Mediates}
 use Rattle.gate.specs.Granted.{AskGranted}
 use Rattle.gate.specs.Laws.{ask-granted}
 use Rattle.machine.specs.Runs.{Grants}
 use Rattle.machine.specs.Machine.{Request, ask, Step, GateEvent, GateRun}
 use Rattle.machine.specs.RunLaws.{cut-at}
-use Rattle.claims.specs.Trace.{Quiet, fileOf, TakesOut, by-read, PutsIn, by-write, Move, Reached, itself, moved}
+use Rattle.claims.specs.Trace.{Quiet, fileOf, TakesOut, by-ask, PutsIn, by-write, Move, Reached, itself, moved}
 use Rattle.claims.specs.Trace.{ReachedInTime, already, moved-on, PassesIndelible}
 use Rattle.claims.specs.TraceLaws.{Kept, kept-then, step-keeps, run-keeps, run-holds, quiet-split}
 
@@ -49,16 +49,17 @@ module _ {s t : State} (k : Kept s t) where
       ap (λ x. SET x (m2Of t role)) (k .tree)
       ∙ ap (λ (l : List Role). SET (s .tree) (rolePart (getD l role offRole) m2Place)) (k .roles)
 
--- a Read, and a Write by the same role, over the same tree, roles and indelible parts
-mediated : (s p q : State) → Kept s p → Kept s q → (role a b : ℕ) → Mediates p role a read → Mediates q role b write → Confines s a b
-mediated s p q kp kq role a b r w = record {
+-- a Read or an Execute, and a Write by the same role, over the same tree, roles and indelible parts
+mediated : (s p q : State) → Kept s p → Kept s q → (role a b mode : ℕ) → TakesContentOut mode → Mediates p role a mode → Mediates q role b write
+    → Confines s a b
+mediated s p q kp kq role a b mode o r w = record {
   e = λ u m.
-      let x = r .e-in-m1 refl u (subst (λ (A : Set). A u) (sym (e-same kp a)) m) in
+      let x = r .e-in-m1 o u (subst (λ (A : Set). A u) (sym (e-same kp a)) m) in
       let y = subst (λ (A : Set). A u) (m1-same kp role) x in
       let z = w .m1-in-e refl u (subst (λ (A : Set). A u) (sym (m1-same kq role)) y) in
       subst (λ (A : Set). A u) (e-same kq b) z;
   g = λ u m.
-      let x = r .g-in-m2 refl u (subst (λ (A : Set). A u) (sym (g-same kp a)) m) in
+      let x = r .g-in-m2 o u (subst (λ (A : Set). A u) (sym (g-same kp a)) m) in
       let y = subst (λ (A : Set). A u) (m2-same kp role) x in
       let z = w .m2-in-g refl u (subst (λ (A : Set). A u) (sym (m2-same kq role)) y) in
       subst (λ (A : Set). A u) (g-same kq b) z;
@@ -83,8 +84,8 @@ module _ (e : GateEvent) (t : State) (slot : ℕ) (st : Step (e .before) (e .req
       let (told, stays) = asked e t slot file mode st g in
       record { held = session-holds (e .before) slot (told .row .session .taken); mediates = rw (g .was) (told .mediates); stays = stays }
 
-  out-passing : TakesOut e slot → Passing e t slot read
-  out-passing (by-read {file} g) = passing file read g
+  out-passing : TakesOut e slot → (mode : ℕ) × TakesContentOut mode × Passing e t slot mode
+  out-passing (by-ask {file} o g) = (_, o, passing file _ g)
 
   in-passing : PutsIn e slot → Passing e t slot write
   in-passing (by-write {file} g) = passing file write g
@@ -103,17 +104,17 @@ move-confines {s} {t} {es} r q {a} {b} m =
     let q1 = quiet-split (m .earlier) (m .takes ∷ onward) (subst Quiet (m .in-order) q) in
     let c2 = cut-at (m .between) (m .puts) (m .later) (c1 .onward) in
     let q2 = quiet-split (m .between) (m .puts ∷ m .later) (q1 .1 .1) in
-    let out = out-passing (m .takes) (c1 .after) slot (c1 .steps) (m .takes-out) in
+    let (mode, o, out) = out-passing (m .takes) (c1 .after) slot (c1 .steps) (m .takes-out) in
     let into = in-passing (m .puts) (c2 .after) slot (c2 .steps) (m .puts-in) in
     let before = run-keeps (c1 .first) (q1 .0) in
     let meanwhile = kept-then (step-keeps (m .takes .answer) (m .takes .request) (c1 .steps) (q1 .1 .0)) (run-keeps (c2 .first) (q2 .0)) in
     let held = ap (λ (x : State). holdOf x slot) (out .stays) ∙ out .held in
     let still = run-holds (c2 .first) (q2 .0) slot (roleOf taken slot) (m .not-ended) held in
     let same = one-role taken (m .puts .before) slot still in
-    let from-a = subst (λ (x : ℕ). Mediates taken (roleOf taken slot) x read) (m .from-a) (out .mediates) in
+    let from-a = subst (λ (x : ℕ). Mediates taken (roleOf taken slot) x mode) (m .from-a) (out .mediates) in
     let to-b = subst (λ (x : ℕ). Mediates (m .puts .before) (roleOf (m .puts .before) slot) x write) (m .to-b) (into .mediates) in
     let by-same = subst (λ (x : ℕ). Mediates (m .puts .before) x b write) same to-b in
-    mediated s taken (m .puts .before) before (kept-then before meanwhile) (roleOf taken slot) a b from-a by-same
+    mediated s taken (m .puts .before) before (kept-then before meanwhile) (roleOf taken slot) a b mode o from-a by-same
 
 -- moves one after another
 pub reached-confines : {s t : State} {es : List GateEvent} → GateRun s es t → Quiet es → {a b : ℕ} → Reached es a b → Confines s a b

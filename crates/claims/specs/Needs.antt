@@ -1,4 +1,4 @@
--- What an ask needs, as 01 puts it ("Rows, roles and the test"), and what its protections mean, written out. Definitions only.
+-- What an ask needs, as 01 ("Rows, roles and the test") and 02's [2] put it, and what its protections mean, written out. Definitions only.
 use mathlib.Core.Path.{_≡_}
 use mathlib.Core.List.{[]}
 use mathlib.Core.Logic.{_⊎_}
@@ -17,9 +17,10 @@ module _ (s : State) (slot file : ℕ) where
   abbrev pub its : ℕ
   its = roleOf s slot
 
-  -- "Read: passes the Read row, and E of that row within M1, G within M2."
-  pub record MayRead : Type 0 where
-    pub passes : Passes s its file read
+  -- "Read: passes the Read row, and E of that row within M1, G within M2." (02, [2]:) "From now Execute also needs E of the file's Read row within M1 and
+  -- G within M2."
+  pub record MayTakeOut (mode : ℕ) : Type 0 where
+    pub passes : Passes s its file mode
     pub e-within-m1 : SET (s .tree) (eOf s file read) ⊆ SET (s .tree) (m1Of s its)
     pub g-within-m2 : SET (s .tree) (gOf s file read) ⊆ SET (s .tree) (m2Of s its)
 
@@ -29,11 +30,11 @@ module _ (s : State) (slot file : ℕ) where
     pub m1-within-e : SET (s .tree) (m1Of s its) ⊆ SET (s .tree) (eOf s file read)
     pub m2-within-g : SET (s .tree) (m2Of s its) ⊆ SET (s .tree) (gOf s file read)
 
-  -- "Execute, Detect, Change Protection: pass their own row."
+  -- "Execute, Detect, Change Protection: pass their own row.", an Execute with what it also needs
   pub data MayAct : ℕ → Type 0 where
-    by-reading : MayRead → MayAct read
+    by-reading : MayTakeOut read → MayAct read
     by-writing : MayWrite → MayAct write
-    by-executing : Passes s its file execute → MayAct execute
+    by-executing : MayTakeOut execute → MayAct execute
     by-detecting : Passes s its file detect → MayAct detect
     by-changing : Passes s its file changeProtection → MayAct changeProtection
 

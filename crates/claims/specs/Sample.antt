@@ -11,7 +11,7 @@ use Rattle.tree.specs.Depth.{depthOf, largest, levelOf}
 use Rattle.expression.specs.declared.Kind.{Kind}
 use Rattle.expression.specs.Expression.{one, term}
 use Rattle.expression.specs.Bytes.{InOrder}
-use Rattle.policy.specs.State.{Free, By, read, write, changeProtection, vPlusPlace, m1Place, bPlace, t1Place, ePlace, freshState, withHold, holdOf}
+use Rattle.policy.specs.State.{Free, By, read, write, execute, changeProtection, vPlusPlace, m1Place, bPlace, t1Place, ePlace, freshState, withHold, holdOf}
 use Rattle.policy.specs.State.{vPlusOf, vMinusOf, m1Of, m2Of, bOf, t1Of, eOf, t2Of, gOf, withEG}
 use Rattle.policy.specs.declared.State.{State}
 use Rattle.shelf.specs.Shelf.{putBytes, padded}
@@ -105,13 +105,15 @@ pub freed-again : (x y : ℕ) → withHold (withHold (withHold sample 0 (By x)) 
 unfolding sample
 freed-again x y = refl
 
+-- a part is empty in the rows beside the Read row: Write, Execute, Change Protection
+abbrev pub NoneBeside : (ℕ → List ℕ) → Type 0
+NoneBeside part = (part write ≡ []) × (part execute ≡ []) × (part changeProtection ≡ [])
+
 pub record RoleParts (s : State) (role : ℕ) (reading mediating bypassing : List ℕ) : Type 0 where
   pub v-plus : vPlusOf s role read ≡ reading
   pub v-minus : vMinusOf s role read ≡ []
-  pub v-plus-write : vPlusOf s role write ≡ []
-  pub v-minus-write : vMinusOf s role write ≡ []
-  pub v-plus-change : vPlusOf s role changeProtection ≡ []
-  pub v-minus-change : vMinusOf s role changeProtection ≡ []
+  pub other-plus : NoneBeside (vPlusOf s role)
+  pub other-minus : NoneBeside (vMinusOf s role)
   pub m1 : m1Of s role ≡ mediating
   pub m2 : m2Of s role ≡ []
   pub b : bOf s role ≡ bypassing
@@ -121,24 +123,18 @@ pub record FileParts (s : State) (file : ℕ) (mutable indelible : List ℕ) : T
   pub e : eOf s file read ≡ indelible
   pub t2 : t2Of s file read ≡ []
   pub g : gOf s file read ≡ []
-  pub t1-write : t1Of s file write ≡ []
-  pub e-write : eOf s file write ≡ []
-  pub t2-write : t2Of s file write ≡ []
-  pub g-write : gOf s file write ≡ []
-  pub t1-change : t1Of s file changeProtection ≡ []
-  pub e-change : eOf s file changeProtection ≡ []
-  pub t2-change : t2Of s file changeProtection ≡ []
-  pub g-change : gOf s file changeProtection ≡ []
+  pub other-t1 : NoneBeside (t1Of s file)
+  pub other-e : NoneBeside (eOf s file)
+  pub other-t2 : NoneBeside (t2Of s file)
+  pub other-g : NoneBeside (gOf s file)
 
 pub sample-role0 : RoleParts sample 0 root root root
 unfolding sample asRole padded flatMap
 sample-role0 = record {
   v-plus = refl;
   v-minus = refl;
-  v-plus-write = refl;
-  v-minus-write = refl;
-  v-plus-change = refl;
-  v-minus-change = refl;
+  other-plus = (refl, refl, refl);
+  other-minus = (refl, refl, refl);
   m1 = refl;
   m2 = refl;
   b = refl;
@@ -149,10 +145,8 @@ unfolding sample asRole padded flatMap
 sample-role1 = record {
   v-plus = refl;
   v-minus = refl;
-  v-plus-write = refl;
-  v-minus-write = refl;
-  v-plus-change = refl;
-  v-minus-change = refl;
+  other-plus = (refl, refl, refl);
+  other-minus = (refl, refl, refl);
   m1 = refl;
   m2 = refl;
   b = refl;
@@ -163,10 +157,8 @@ unfolding sample asRole padded flatMap
 sample-role2 = record {
   v-plus = refl;
   v-minus = refl;
-  v-plus-write = refl;
-  v-minus-write = refl;
-  v-plus-change = refl;
-  v-minus-change = refl;
+  other-plus = (refl, refl, refl);
+  other-minus = (refl, refl, refl);
   m1 = refl;
   m2 = refl;
   b = refl;
@@ -179,14 +171,10 @@ sample-file0 = record {
   e = refl;
   t2 = refl;
   g = refl;
-  t1-write = refl;
-  e-write = refl;
-  t2-write = refl;
-  g-write = refl;
-  t1-change = refl;
-  e-change = refl;
-  t2-change = refl;
-  g-change = refl;
+  other-t1 = (refl, refl, refl);
+  other-e = (refl, refl, refl);
+  other-t2 = (refl, refl, refl);
+  other-g = (refl, refl, refl);
 }
 
 pub sample-file1 : FileParts sample 1 [] root
@@ -196,14 +184,10 @@ sample-file1 = record {
   e = refl;
   t2 = refl;
   g = refl;
-  t1-write = refl;
-  e-write = refl;
-  t2-write = refl;
-  g-write = refl;
-  t1-change = refl;
-  e-change = refl;
-  t2-change = refl;
-  g-change = refl;
+  other-t1 = (refl, refl, refl);
+  other-e = (refl, refl, refl);
+  other-t2 = (refl, refl, refl);
+  other-g = (refl, refl, refl);
 }
 
 pub sample-file2 : FileParts sample 2 [] []
@@ -213,14 +197,10 @@ sample-file2 = record {
   e = refl;
   t2 = refl;
   g = refl;
-  t1-write = refl;
-  e-write = refl;
-  t2-write = refl;
-  g-write = refl;
-  t1-change = refl;
-  e-change = refl;
-  t2-change = refl;
-  g-change = refl;
+  other-t1 = (refl, refl, refl);
+  other-e = (refl, refl, refl);
+  other-t2 = (refl, refl, refl);
+  other-g = (refl, refl, refl);
 }
 
 pub sample-file3 : FileParts sample 3 root []
@@ -230,14 +210,10 @@ sample-file3 = record {
   e = refl;
   t2 = refl;
   g = refl;
-  t1-write = refl;
-  e-write = refl;
-  t2-write = refl;
-  g-write = refl;
-  t1-change = refl;
-  e-change = refl;
-  t2-change = refl;
-  g-change = refl;
+  other-t1 = (refl, refl, refl);
+  other-e = (refl, refl, refl);
+  other-t2 = (refl, refl, refl);
+  other-g = (refl, refl, refl);
 }
 
 -- the sample with slot 0 held by a role; then, with role 0, after a bypass that gives file 2 the E of file 0, and after one that takes file 1's E away
@@ -257,14 +233,10 @@ raised-file0 = record {
   e = refl;
   t2 = refl;
   g = refl;
-  t1-write = refl;
-  e-write = refl;
-  t2-write = refl;
-  g-write = refl;
-  t1-change = refl;
-  e-change = refl;
-  t2-change = refl;
-  g-change = refl;
+  other-t1 = (refl, refl, refl);
+  other-e = (refl, refl, refl);
+  other-t2 = (refl, refl, refl);
+  other-g = (refl, refl, refl);
 }
 
 pub raised-file2 : FileParts raised 2 [] root
@@ -274,14 +246,10 @@ raised-file2 = record {
   e = refl;
   t2 = refl;
   g = refl;
-  t1-write = refl;
-  e-write = refl;
-  t2-write = refl;
-  g-write = refl;
-  t1-change = refl;
-  e-change = refl;
-  t2-change = refl;
-  g-change = refl;
+  other-t1 = (refl, refl, refl);
+  other-e = (refl, refl, refl);
+  other-t2 = (refl, refl, refl);
+  other-g = (refl, refl, refl);
 }
 
 pub lowered-file0 : FileParts lowered 0 [] root
@@ -291,14 +259,10 @@ lowered-file0 = record {
   e = refl;
   t2 = refl;
   g = refl;
-  t1-write = refl;
-  e-write = refl;
-  t2-write = refl;
-  g-write = refl;
-  t1-change = refl;
-  e-change = refl;
-  t2-change = refl;
-  g-change = refl;
+  other-t1 = (refl, refl, refl);
+  other-e = (refl, refl, refl);
+  other-t2 = (refl, refl, refl);
+  other-g = (refl, refl, refl);
 }
 
 pub lowered-file1 : FileParts lowered 1 [] []
@@ -308,14 +272,10 @@ lowered-file1 = record {
   e = refl;
   t2 = refl;
   g = refl;
-  t1-write = refl;
-  e-write = refl;
-  t2-write = refl;
-  g-write = refl;
-  t1-change = refl;
-  e-change = refl;
-  t2-change = refl;
-  g-change = refl;
+  other-t1 = (refl, refl, refl);
+  other-e = (refl, refl, refl);
+  other-t2 = (refl, refl, refl);
+  other-g = (refl, refl, refl);
 }
 
 -- a hold alters no part of a role or a file, and a bypass none of a role
@@ -324,10 +284,8 @@ pub held-role : (x : ℕ) {role : ℕ} {reading mediating bypassing : List ℕ} 
 held-role x r = record {
   v-plus = r .v-plus;
   v-minus = r .v-minus;
-  v-plus-write = r .v-plus-write;
-  v-minus-write = r .v-minus-write;
-  v-plus-change = r .v-plus-change;
-  v-minus-change = r .v-minus-change;
+  other-plus = r .other-plus;
+  other-minus = r .other-minus;
   m1 = r .m1;
   m2 = r .m2;
   b = r .b;
@@ -339,14 +297,10 @@ held-file x f = record {
   e = f .e;
   t2 = f .t2;
   g = f .g;
-  t1-write = f .t1-write;
-  e-write = f .e-write;
-  t2-write = f .t2-write;
-  g-write = f .g-write;
-  t1-change = f .t1-change;
-  e-change = f .e-change;
-  t2-change = f .t2-change;
-  g-change = f .g-change;
+  other-t1 = f .other-t1;
+  other-e = f .other-e;
+  other-t2 = f .other-t2;
+  other-g = f .other-g;
 }
 
 pub raised-role : {role : ℕ} {reading mediating bypassing : List ℕ} → RoleParts sample role reading mediating bypassing
@@ -354,10 +308,8 @@ pub raised-role : {role : ℕ} {reading mediating bypassing : List ℕ} → Role
 raised-role r = record {
   v-plus = r .v-plus;
   v-minus = r .v-minus;
-  v-plus-write = r .v-plus-write;
-  v-minus-write = r .v-minus-write;
-  v-plus-change = r .v-plus-change;
-  v-minus-change = r .v-minus-change;
+  other-plus = r .other-plus;
+  other-minus = r .other-minus;
   m1 = r .m1;
   m2 = r .m2;
   b = r .b;

@@ -13,6 +13,7 @@ use Rattle.expression.specs.Starred.{park, Case, cases}
 use Rattle.expression.specs.Starred as expression-starred
 use Rattle.expression.specs.StarredLaws.{starred}
 use Rattle.rules.specs.Rules.{PassesRow}
+use Rattle.rules.specs.Laws.{write-fits}
 use Rattle.claims.specs.Starred.{Starred, meaning, asked, asks, table, AllMean, oneThree, oneAlone}
 
 join : (xs ys : List Starred) → AllMean xs → AllMean ys → AllMean (xs ++ ys)
@@ -36,12 +37,9 @@ three-not (e, q, m) = let x = subst (λ (f : Expr). privilegeSET park f 3) (one-
 
 asks-mean : AllMean (map asked asks)
 asks-mean = (
-  record { passes = same-row oneThree; fits = λ m. three-not (m .e-in-m1 refl 3 three-in) },
+  record { passes = same-row oneThree; fits = λ m. three-not (m .e-in-m1 (inl refl) 3 three-in) },
   (
-    record {
-      passes = same-row [];
-      fits = record { e-in-m1 = λ z. absurd (omega arith); g-in-m2 = λ z. absurd (omega arith); m1-in-e = λ _ u x. x; m2-in-g = λ _ u x. x };
-    },
+    record { passes = same-row []; fits = write-fits refl .0 ((λ u x. x), λ u x. x) },
     (record { passes = same-row []; fits = λ m. three-not (m .m1-in-e refl 3 three-in) }, tt),
   ),
 )

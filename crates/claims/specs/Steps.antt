@@ -22,12 +22,12 @@ granted = record { number = 0; place = 0 }
 abbrev pub done : State → Request → GateEvent
 done s q = record { before = s; request = q; answer = granted }
 
-made : (before after : State) → Leaves granted (λ t. t ≡ after) before after
+pub made : (before after : State) → Leaves granted (λ t. t ≡ after) before after
 made before after = record { on-grant = λ g. refl; on-refusal = λ n. absurd (n refl) }
 
 -- a row that is granted decides the conditions up to it, whatever comes after them
-row-holds : {s : State} {slot file mode row : ℕ} (later : List Condition) → RowGranted s slot file mode row → DecidesAt later 0 granted
-    → DecidesAt (rowConditions s slot file mode row ++ later) 0 granted
+pub row-holds : {s : State} {slot file mode row : ℕ} {a : Answer} (later : List Condition) → RowGranted s slot file mode row → DecidesAt later 0 a
+    → DecidesAt (rowConditions s slot file mode row ++ later) 0 a
 row-holds later h d =
     let ses = h .session in
     inr (ses .well-formed, inr (ses .known, inr (ses .taken, inr (h .present, inr (h .is-mode, inr (h .passes, d))))))

@@ -7,6 +7,7 @@ use Rattle.securon.specs.Sets.{Set, _⊆_, Apart}
 use Rattle.expression.specs.Bytes.{SET}
 use Rattle.policy.specs.declared.State.{State}
 use Rattle.policy.specs.State.{read, write, eOf, gOf}
+use Rattle.rules.specs.Rules.{TakesContentOut}
 use Rattle.machine.specs.Runs.{Grants}
 use Rattle.machine.specs.Machine.{Request, load, begin, end, ask, change, bypass, GateEvent}
 
@@ -39,9 +40,9 @@ fileOf s (ask slot file mode) = file
 fileOf s (change slot file mode t1 t2) = file
 fileOf s (bypass slot file mode e g) = file
 
--- by e the session of that slot takes content out of a file: a granted Read
+-- by e the session of that slot takes content out of a file: a granted Read or Execute
 pub data TakesOut (e : GateEvent) (slot : ℕ) : Type 0 where
-  by-read : {file : ℕ} → Grants e (ask slot file read) → TakesOut e slot
+  by-ask : {file mode : ℕ} → TakesContentOut mode → Grants e (ask slot file mode) → TakesOut e slot
 
 -- by e the session of that slot puts content into a file: a granted Write
 pub data PutsIn (e : GateEvent) (slot : ℕ) : Type 0 where

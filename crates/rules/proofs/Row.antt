@@ -14,7 +14,7 @@ use Rattle.expression.specs.declared.Kind.the-variants.{Privilege}
 use Rattle.shelf.specs.Shelf.{PartInOrder}
 use Rattle.shelf.specs.Kept.{odd-kind}
 use Rattle.policy.specs.declared.File.{File}
-use Rattle.policy.specs.State.{filePlaces, read, write}
+use Rattle.policy.specs.State.{filePlaces}
 use Rattle.policy.specs.WellFormed.{FileInOrder}
 use Rattle.policy.specs.Parts.{file-by-place}
 use Rattle.rules.specs.Rules.{MediatesRow, EntersOrLeaves}
@@ -39,37 +39,7 @@ altered-iff A B S K L k l x y f g = iff-trans (and-iff x y f g) (
         go true e = inl e
         go false e = inr (s (λ m. false≢true (sym e ∙ m)))
 
--- the mediating test, mode by mode
-module _ {mode : ℕ} {m1 m2 e g : Set} where
-  pub read-fits : mode ≡ read → ((e ⊆ m1) × (g ⊆ m2)) ↔ MediatesRow mode m1 m2 e g
-  read-fits r = (
-    (λ w. record {
-      e-in-m1 = λ _. w .0;
-      g-in-m2 = λ _. w .1;
-      m1-in-e = λ h. absurd (omega arith);
-      m2-in-g = λ h. absurd (omega arith);
-    }),
-    λ w. (w .e-in-m1 r, w .g-in-m2 r),
-  )
-
-  pub write-fits : mode ≡ write → ((m1 ⊆ e) × (m2 ⊆ g)) ↔ MediatesRow mode m1 m2 e g
-  write-fits r = (
-    (λ w. record {
-      e-in-m1 = λ h. absurd (omega arith);
-      g-in-m2 = λ h. absurd (omega arith);
-      m1-in-e = λ _. w .0;
-      m2-in-g = λ _. w .1;
-    }),
-    λ w. (w .m1-in-e r, w .m2-in-g r),
-  )
-
-  pub other-fits : (mode ≡ read → ⊥) → (mode ≡ write → ⊥) → (true ≡ true) ↔ MediatesRow mode m1 m2 e g
-  other-fits r w = (
-    (λ _. record { e-in-m1 = λ h. absurd (r h); g-in-m2 = λ h. absurd (r h); m1-in-e = λ h. absurd (w h); m2-in-g = λ h. absurd (w h) }),
-    λ _. refl,
-  )
-
--- and with sets that have the same members
+-- the mediating test, with sets that have the same members
 pub same-mediates : {mode : ℕ} {m1 m2 e g n1 n2 f h : Set} → m1 ≐ n1 → m2 ≐ n2 → e ≐ f → g ≐ h → MediatesRow mode m1 m2 e g ↔ MediatesRow mode n1 n2 f h
 same-mediates a b c d = (
   (λ w. record {

@@ -1,2 +1,3 @@
 pub mod Rules
 pub mod AtHand
+pub mod Laws

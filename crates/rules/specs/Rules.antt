@@ -9,7 +9,7 @@ use Rattle.expression.specs.Bytes.{SET, MeetsT1, MeetsT2}
 use Rattle.policy.specs.declared.Role.{Role}
 use Rattle.policy.specs.declared.File.{File}
 use Rattle.policy.specs.declared.State.{State}
-use Rattle.policy.specs.State.{read, write, roleAt, fileAt, rolePart, filePart, vPlusPlace, vMinusPlace}
+use Rattle.policy.specs.State.{read, write, execute, roleAt, fileAt, rolePart, filePart, vPlusPlace, vMinusPlace}
 use Rattle.policy.specs.State.{m1Place, m2Place, bPlace, t1Place, ePlace, t2Place, gPlace}
 
 -- "A role passes a row when all four hold": V+ meets T1; SET(E) is within V+; V- does not meet T2; V- and SET(G) share no securon
@@ -29,11 +29,15 @@ RolePasses t r f mode =
 abbrev pub Passes : State → ℕ → ℕ → ℕ → Type 0
 Passes s role file mode = RolePasses (s .tree) (roleAt s role) (fileAt s file) mode
 
--- Read: E of that row within M1, G within M2. Write: M1 within E, M2 within G, of the file's Read row. The other modes ask nothing.
+-- takes content out: Read or Execute (02, [2]: "content comes out")
+abbrev pub TakesContentOut : ℕ → Type 0
+TakesContentOut mode = (mode ≡ read) ⊎ (mode ≡ execute)
+
+-- Read and Execute: E of the file's Read row within M1, G within M2. Write: M1 within E, M2 within G, of the file's Read row. The other modes ask nothing.
 -- Here e and g are those of the Read row
 pub record MediatesRow (mode : ℕ) (m1 m2 e g : Set) : Type 0 where
-  pub e-in-m1 : mode ≡ read → e ⊆ m1
-  pub g-in-m2 : mode ≡ read → g ⊆ m2
+  pub e-in-m1 : TakesContentOut mode → e ⊆ m1
+  pub g-in-m2 : TakesContentOut mode → g ⊆ m2
   pub m1-in-e : mode ≡ write → m1 ⊆ e
   pub m2-in-g : mode ≡ write → m2 ⊆ g
 

@@ -15,7 +15,7 @@ ghost use Rattle.tree.specs.Tree.{Ready};
 ghost use Rattle.expression.specs.declared.Kind.the-variants.{Privilege, Protection};
 ghost use Rattle.shelf.specs.Shelf.{PartInOrder};
 ghost use Rattle.policy.specs.State.{IsMode, rolePlaces, filePlaces, rolePart, filePart};
-ghost use Rattle.rules.specs.Rules.{MediatesRow, EntersOrLeaves, RolePasses, RoleMediates, RoleCovers};
+ghost use Rattle.rules.specs.Rules.{TakesContentOut, MediatesRow, EntersOrLeaves, RolePasses, RoleMediates, RoleCovers};
 ghost use Rattle.rules.specs.AtHand.{AtHand, PlusPasses, MinusPasses, ToStore};
 
 // SET of the privilege at place k of a role.
@@ -108,25 +108,32 @@ pub fn passes(tree: Tree, levels: Levels, role: Role, file: File, mode: usize) -
     minus_passes(tree, levels, role, file, mode)
 }
 
-// Whether mediating sets fit E and G of a Read row: for Read E and G lie within, for Write the other way round.
+// Whether a mode takes content out of a file: Read or Execute.
+fn takes_content_out(mode: usize) -> bool
+    ensures { λ x. ⌜ (x ≡ true) ↔ TakesContentOut mode ⌝ }
+{
+    (mode == policy::READ) | (mode == policy::EXECUTE)
+}
+
+// Whether mediating sets fit E and G of a Read row: where content is taken out E and G lie within, for Write the other way round.
 fn sets_fit(mode: usize, m1: SecuronSet, m2: SecuronSet, e: SecuronSet, g: SecuronSet) -> bool
     ensures { λ x. ⌜ (x ≡ true) ↔ MediatesRow mode (marked (m1 .has)) (marked (m2 .has)) (marked (e .has)) (marked (g .has)) ⌝ }
 {
-    if mode == policy::READ {
-        return e.part(m1) & g.part(m2);
-    }
     if mode == policy::WRITE {
         return m1.part(e) & m2.part(g);
+    }
+    if takes_content_out(mode) {
+        return e.part(m1) & g.part(m2);
     }
     true
 }
 
-// Whether the role's mediating sets fit. The indelible parts are those of the Read row, for a write too; the other modes read none.
+// Whether the role's mediating sets fit. The indelible parts are those of the Read row, whatever the mode; Detect and Change Protection need none.
 pub fn mediates(tree: Tree, levels: Levels, role: Role, file: File, mode: usize) -> bool
     requires { ⌜ AtHand tree levels role file ⌝ }
     ensures { λ x. ⌜ (x ≡ true) ↔ RoleMediates tree role file mode ⌝ }
 {
-    if policy::WRITE < mode {
+    if policy::EXECUTE < mode {
         return true;
     }
     let m1 = role_set(tree, levels, role, policy::M1_PLACE);

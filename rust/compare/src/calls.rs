@@ -9,8 +9,8 @@ pub enum Call<'a> {
     Begin,
     /// end.
     End,
-    /// ask.
-    Ask,
+    /// ask, with its mode.
+    Ask(u8),
     /// change, with the lengths of its expressions.
     Change([usize; 2]),
     /// bypass, with the lengths of its expressions.
@@ -42,7 +42,7 @@ fn record<'a>(rest: &[u8]) -> Option<(Call<'a>, usize)> {
     let (call, length) = match rest[0] {
         1 => (Call::Begin, 3),
         2 => (Call::End, 2),
-        3 => (Call::Ask, 4),
+        3 => (Call::Ask(*rest.get(3)?), 4),
         code @ (4 | 5) => {
             let first = usize::from(*rest.get(4)?);
             let second = usize::from(*rest.get(5 + first)?);

@@ -3,6 +3,7 @@
 
 use crate::cases::written;
 use crate::draw::Draw;
+use crate::modes::ByMode;
 use crate::policies::{damaged, over, privilege, protection, Over};
 use crate::program::{difference, printed};
 use std::collections::BTreeMap;
@@ -37,16 +38,21 @@ const KINDS: [&str; 16] = [
 const CAN: [(&str, &[u8]); 5] = [
     ("begin", &[0, 8, 10, 11, 17]),
     ("end", &[0, 8, 9, 17]),
-    ("ask", &[0, 8, 9, 12, 13, 14, 15, 17]),
+    (ASK, &[0, 8, 9, 12, 13, 14, 15, 17]),
     ("change", &[0, 6, 8, 9, 12, 13, 14, 17]),
     ("bypass", &[0, 6, 8, 9, 12, 13, 14, 16, 17]),
 ];
 
-/// What was met: the states by kind, well formed and not; each request's numbers; and all calls.
+/// The name of an ask, which goes on with its mode.
+const ASK: &str = "ask";
+
+/// What was met: the states by kind, well formed and not; each request's numbers; asks by mode; and
+/// all calls.
 #[derive(Default)]
 struct Met {
     states: [[usize; 2]; KINDS.len()],
     numbers: BTreeMap<(String, u8), usize>,
+    modes: ByMode,
     calls: usize,
 }
 
@@ -79,8 +85,12 @@ impl Met {
             self.states[kind][usize::from(ill)] += 1;
             self.calls += 9;
         } else {
-            let number = answers.split(' ').next()?.parse().ok()?;
-            *self.numbers.entry((name.to_string(), number)).or_default() += 1;
+            let number: u8 = answers.split(' ').next()?.parse().ok()?;
+            let (word, mode) = name.split_once(" for mode ").unwrap_or((name, ""));
+            if word == ASK {
+                self.modes.count(mode.parse().ok()?, number.into()).ok()?;
+            }
+            *self.numbers.entry((word.to_string(), number)).or_default() += 1;
         }
         self.calls += 1;
         Some(())
@@ -109,6 +119,13 @@ impl Met {
             }
             said.push('\n');
         }
+        said += &self.modes.to_string();
+        missing.extend(
+            self.modes
+                .missing()
+                .iter()
+                .map(|never| format!("{never}\n")),
+        );
         let states: usize = self.states.iter().flatten().sum();
         let calls = self.calls;
         match missing.is_empty() {
@@ -257,7 +274,10 @@ impl Made {
             match draw.below(6) {
                 0 => self.call("begin", "begin", &numbers[..2]),
                 1 => self.call("end", "end", &numbers[..1]),
-                2 | 3 => self.call("ask", "ask", &numbers),
+                2 | 3 => {
+                    let name = format!("{ASK} for mode {}", numbers[2]);
+                    self.call(&name, ASK, &numbers);
+                }
                 which => {
                     let word = ["change", "bypass"][which - 4];
                     let bytes = self.twice(draw, word);

@@ -21,6 +21,7 @@ mod kept;
 mod long;
 mod longest;
 mod made;
+mod modes;
 mod parkbox;
 mod parts;
 mod policies;

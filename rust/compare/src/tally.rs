@@ -1,6 +1,7 @@
 //! How often each number and each kind of place was given, and what had to be.
 
 use crate::calls::{calls, field, Call, Field};
+use crate::modes::ByMode;
 use std::collections::BTreeMap;
 use std::fmt;
 
@@ -66,6 +67,7 @@ pub const KINDS: [&str; 39] = [
 /// What was given so far.
 pub struct Tally {
     numbers: [[u64; 21]; 7],
+    modes: ByMode,
     kinds: BTreeMap<&'static str, u64>,
 }
 
@@ -74,6 +76,7 @@ impl Tally {
     pub fn new() -> Tally {
         Tally {
             numbers: [[0; 21]; 7],
+            modes: ByMode::default(),
             kinds: KINDS.iter().map(|&kind| (kind, 0)).collect(),
         }
     }
@@ -115,11 +118,14 @@ impl Tally {
         let figures = line.split_once(' ').ok_or("no two figures")?;
         let parse = |figure: &str| figure.parse::<usize>().map_err(|_| "no figure");
         let (number, place) = (parse(figures.0)?, parse(figures.1)?);
+        if let Call::Ask(mode) = call {
+            self.modes.count(*mode, number)?;
+        }
         let (column, kind) = match call {
             Call::Load(image) => (0, load_kind(image, number, place)),
             Call::Begin => (1, None),
             Call::End => (2, None),
-            Call::Ask => (ASK, None),
+            Call::Ask(_) => (ASK, None),
             Call::Change(lengths) => (4, request_kind(lengths, number, place)),
             Call::Bypass(lengths) => (5, request_kind(lengths, number, place)),
         };
@@ -172,6 +178,7 @@ impl Tally {
         for (kind, _) in self.kinds.iter().filter(|(_, &count)| count == 0) {
             missing.push(format!("never met: {kind}"));
         }
+        missing.extend(self.modes.missing());
         let (granted, refused) = self.asks();
         if 4 * granted < refused || 4 * refused < granted {
             missing.push(format!("asks: {granted} granted, {refused} refused"));
@@ -271,6 +278,7 @@ impl fmt::Display for Tally {
         for kind in KINDS {
             writeln!(f, "{:>9}  {kind}", self.kinds[kind])?;
         }
+        self.modes.fmt(f)?;
         let (granted, refused) = self.asks();
         write!(f, "asks: {granted} granted, {refused} refused")
     }

@@ -1,5 +1,6 @@
 //! That differences are found: subjects that are wrong in one way each.
 
+use crate::modes::ByMode;
 use crate::program::printed;
 use crate::runner::{from_hex, Runner, Subject};
 use crate::{all_parts, cases, long, made, parkbox, turn, windows};
@@ -43,6 +44,8 @@ fn the_twin_differs_nowhere_and_all_is_met() {
 fn nothing_is_met_without_a_call() {
     let missing = Runner::new(TWIN).tally.missing();
     assert!(missing.contains(&"ask never gave 15".to_string()));
+    assert!(missing.contains(&"ask, Execute, never gave 15".to_string()));
+    assert!(!missing.contains(&"ask, Detect, never gave 15".to_string()));
     assert!(missing.contains(&"never met: load: 5 at a parent".to_string()));
 }
 
@@ -57,6 +60,17 @@ fn a_wrong_number_is_found() {
     };
     let found = found(Subject { replay, ..TWIN });
     assert!(found.contains("library Some(\"14 0\"), twin Some(\"15 0\")"));
+}
+
+#[test]
+fn an_answer_that_a_mode_cant_give_is_found() {
+    let mut modes = ByMode::default();
+    assert!(modes.count(2, 15).is_ok());
+    assert!(modes.count(3, 14).is_ok());
+    assert!(modes.count(3, 15).is_err());
+    assert!(modes.count(4, 15).is_err());
+    assert!(modes.count(5, 0).is_err());
+    assert!(modes.count(5, 13).is_ok());
 }
 
 #[test]

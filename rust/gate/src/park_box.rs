@@ -178,9 +178,10 @@ impl ParkBox {
 
     /// Whether the session in a slot may do this with a file. The box stays as it is.
     ///
-    /// The role has to pass the file's row of that mode. To read, E of the Read row has to be within
-    /// its M1 and G within its M2; to write, M1 within E and M2 within G of the Read row: so what a
-    /// session has read goes only where as much is asked of a reader.
+    /// The role has to pass the file's row of that mode. To read or to run, E of the Read row has to
+    /// be within its M1 and G within its M2: running a file is reading it. To write, M1 has to be
+    /// within E and M2 within G of the Read row. So what a session has taken out goes only where as
+    /// much is asked of a reader.
     ///
     /// # Errors
     /// The first that applies of 17, 8 (slot number over 15), 9 (slot free), 12 (no such file), 14

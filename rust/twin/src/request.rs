@@ -191,18 +191,19 @@ impl State {
         }
     }
 
-    /// Whether the mediating sets fit: Read and Write test them against the file's Read
-    /// row, the other modes not at all (01, "Read", "Write", "Execute"; A5).
+    /// Whether the mediating sets fit the file's Read row: what takes content out, Read and
+    /// Execute, needs its E and G within them, Write needs them within its E and G, the other
+    /// modes need nothing (01, "Read", "Write"; 02, [2]).
     fn mediating_fit(&self, tree: &Tree, role: usize, file: usize, mode: usize) -> bool {
-        if mode != READ && mode != WRITE {
+        if mode > EXECUTE {
             return true;
         }
         let m1 = self.privilege(tree, role, M1);
         let m2 = self.privilege(tree, role, M2);
         let read = self.indelible(tree, file, READ);
         match mode {
-            READ => part(read.e, m1) && part(read.g, m2),
-            _ => part(m1, read.e) && part(m2, read.g),
+            WRITE => part(m1, read.e) && part(m2, read.g),
+            _ => part(read.e, m1) && part(read.g, m2),
         }
     }
 

@@ -1,13 +1,14 @@
 -- `rules::mediates` meets its contract: the sets at hand have the members of those that are meant. Assumes nothing.
 use native.Mathlib.Omega.{arith}
-use Rattle.logic.specs.Iff.{iff-trans}
-use Rattle.rules.proofs.Row.{odd-part, other-fits, same-mediates}
+use Rattle.logic.specs.Iff.{iff-trans, yes-iff}
+use Rattle.rules.specs.Laws.{over-execute, other-fits}
+use Rattle.rules.proofs.Row.{odd-part, same-mediates}
 use borrow.Author.Needs.{needs}
 use Rattle.rules.proofs.mediates.Statement.{statement}
 use Rattle.rules.proofs.mediates.Tie as tie
 
 returns : tie.Need-returns
-returns c = other-fits (λ e. omega arith) (λ e. omega arith)
+returns c = yes-iff (other-fits (λ e. omega arith) (over-execute (c .if1 .taken)))
 
 role-set-requires : tie.Need-role-set-requires
 role-set-requires c κs = let p = c .before .pre in (p .ready, omega arith, p .role .m1)

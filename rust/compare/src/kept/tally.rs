@@ -4,6 +4,7 @@ use super::box_call::{whole, BoxCall, PRINT};
 use super::damage::DAMAGES;
 use super::pair::{Said, NO_RECORD};
 use super::prints;
+use crate::modes::ByMode;
 use crate::tally::{load_kind, request_kind, KINDS};
 use std::collections::BTreeMap;
 use std::fmt;
@@ -47,6 +48,7 @@ const BESIDES: [&str; 14] = [
 /// What was given so far.
 pub struct BoxTally {
     numbers: [[[u64; 256]; 2]; 8],
+    modes: ByMode,
     kinds: BTreeMap<String, u64>,
     damages: [[u64; 2]; DAMAGES.len()],
 }
@@ -56,6 +58,7 @@ impl BoxTally {
     pub fn new() -> BoxTally {
         BoxTally {
             numbers: [[[0; 256]; 2]; 8],
+            modes: ByMode::default(),
             kinds: all_kinds().map(|kind| (kind.to_string(), 0)).collect(),
             damages: [[0; 2]; DAMAGES.len()],
         }
@@ -97,6 +100,9 @@ impl BoxTally {
             return Err(format!("no answer of {name}"));
         }
         self.numbers[column][usize::from(raw)][usize::from(said.number)] += 1;
+        if column == ASK {
+            self.modes.count(record[3], usize::from(said.number))?;
+        }
         if column == PRINTS {
             return self.print(call, record, room, said);
         }
@@ -162,20 +168,12 @@ impl BoxTally {
                 missing.push(format!("{kind}: {well} well formed, {ill} not"));
             }
         }
-        let [granted, refused] = self.judged();
+        missing.extend(self.modes.missing());
+        let [granted, refused] = self.modes.judged();
         if 4 * granted < refused || 4 * refused < granted {
             missing.push(format!("asks: {granted} granted, {refused} with 14 or 15"));
         }
         missing
-    }
-
-    /// Asks that were judged by the rows: granted, and refused with 14 or 15.
-    fn judged(&self) -> [u64; 2] {
-        let count = |number: usize| -> u64 {
-            let ways = self.numbers[ASK].iter();
-            ways.map(|numbers| numbers[number]).sum()
-        };
-        [count(0), count(14) + count(15)]
     }
 }
 
@@ -220,7 +218,8 @@ impl fmt::Display for BoxTally {
         for (kind, [well, ill]) in DAMAGES.iter().zip(self.damages) {
             writeln!(f, "{well:>9} {ill:>9}  {kind}")?;
         }
-        let [granted, refused] = self.judged();
+        self.modes.fmt(f)?;
+        let [granted, refused] = self.modes.judged();
         write!(
             f,
             "asks: {granted} granted, {refused} refused with 14 or 15"

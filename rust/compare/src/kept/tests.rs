@@ -80,6 +80,7 @@ fn nothing_is_met_without_a_call() {
     let missing = BoxTally::new().missing();
     for never in [
         "end, record, never gave 17",
+        "ask, Execute, never gave 15",
         "none, record, never gave 255",
         "never met: load: 5 at a parent",
         "print, typed, never gave 20",

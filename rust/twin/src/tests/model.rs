@@ -76,7 +76,7 @@ impl Model {
         let e = self.set(&self.policy.files[file][1]);
         let g = self.set(&self.policy.files[file][3]);
         let fits = match mode {
-            0 => e | m1 == m1 && g | m2 == m2,
+            0 | 2 => e | m1 == m1 && g | m2 == m2,
             1 => e | m1 == e && g | m2 == g,
             _ => true,
         };

@@ -149,8 +149,32 @@ fn read_and_write_look_at_g_and_m2_too() {
 }
 
 #[test]
-fn execute_detect_and_change_protection_have_no_mediating_sets() {
-    for mode in [2, 3, 4] {
+fn execute_needs_e_within_m1_and_g_within_m2_of_the_read_row() {
+    let unread = file(&[(e(0), &[1, 3]), (g(0), &[1, 5])]);
+    assert_eq!(ask(Role::default(), unread.clone(), 2), 15);
+    let first = role(&[(M1, &[1, 3])]);
+    assert_eq!(ask(first, unread.clone(), 2), 15);
+    let second = role(&[(M2, &[1, 5])]);
+    assert_eq!(ask(second, unread.clone(), 2), 15);
+    // The other way round, as a write has it, is not enough.
+    let wider = file(&[(e(0), &all_of(&[1, 3])), (g(0), &[1, 5])]);
+    let both = role(&[(M1, &[1, 3]), (M2, &[1, 5])]);
+    assert_eq!(ask(both.clone(), wider, 2), 15);
+    // V+ of Read has no say: who may run need not pass the Read row.
+    assert_eq!(ask(both.clone(), unread.clone(), 0), 14);
+    assert_eq!(ask(both.clone(), unread, 2), 0);
+    // Nor has E or G of the Execute row for M1 and M2; and 14 hides 15.
+    let own = file(&[(e(2), &[1, 4]), (g(2), &[1, 6])]);
+    assert_eq!(ask(both.clone(), own.clone(), 2), 14);
+    let able = role(&[(plus(2), &[1, 4])]);
+    assert_eq!(ask(able, own, 2), 0);
+    let neither = file(&[(e(0), &[1, 4]), (e(2), &[1, 4])]);
+    assert_eq!(ask(both, neither, 2), 14);
+}
+
+#[test]
+fn detect_and_change_protection_have_no_mediating_sets() {
+    for mode in [3, 4] {
         let one = role(&[(M1, &[1, 1]), (M2, &[1, 2]), (plus(mode), &[1, 4])]);
         assert_eq!(ask(one.clone(), file(&[(e(mode), &[1, 4])]), mode), 0);
         assert_eq!(ask(one.clone(), file(&[(e(0), &[1, 4])]), mode), 0);
