@@ -71,11 +71,14 @@ fn things<'a>(timed: &'a Timed, boxes: &Boxes) -> Vec<(String, [Side<'a>; 2])> {
     let [slot, file, mode] = timed.refused;
     let refused = Mode::ALL[usize::from(mode)];
     let [twins_slot, twins_file, twins_mode] = timed.refused.map(usize::from);
-    let ask = boxes.sides(
-        0,
-        |park| park.ask(0, 0, Mode::Read),
-        |state| state.ask(0, 0, 0),
-    );
+    // One call of the twin's ask for both modes: how fast it is compiled depends on how many there are.
+    let granted = |mode: Mode| {
+        boxes.sides(
+            0,
+            move |park| park.ask(0, 0, mode),
+            move |state| state.ask(0, 0, mode as usize),
+        )
+    };
     let not = boxes.sides(
         14,
         move |park| park.ask(slot, file, refused),
@@ -110,13 +113,17 @@ fn things<'a>(timed: &'a Timed, boxes: &Boxes) -> Vec<(String, [Side<'a>; 2])> {
         |state| state.load(&timed.image),
     );
     let name = str::to_string;
-    vec![
-        (name("ask, granted"), ask),
+    let mut things = vec![(name("ask, granted"), granted(Mode::Read))];
+    if timed.runs {
+        things.push((name("ask to run, granted"), granted(Mode::Execute)));
+    }
+    things.extend([
         (name("ask, refused (14)"), not),
         (name("change, granted"), change),
         (name("bypass, granted"), bypass),
         (name("begin and end, both"), both),
         (format!("print of {} bytes", t1.len()), print),
         (format!("load of {} bytes", timed.image.len()), load),
-    ]
+    ]);
+    things
 }

@@ -22,17 +22,21 @@ pub struct Timed {
     pub refused: [u8; 3],
     /// T1, E, T2, G of file 0's Execute row, which slot 0 may store again.
     pub row: [Vec<u8>; 4],
+    /// Whether slot 0 may run file 0.
+    pub runs: bool,
 }
 
 impl Timed {
-    /// The calls on a policy: slot 0 asks to read file 0; the ask named (slot, file, mode) is
-    /// refused; and slot 0 stores file 0's Execute row again as it is.
+    /// The calls on a policy: slot 0 asks to read file 0, and to run it unless that is the ask
+    /// named (slot, file, mode), which is refused; and slot 0 stores file 0's Execute row again as
+    /// it is.
     fn new(name: &'static str, policy: &Policy, refused: [u8; 3]) -> Timed {
         Timed {
             name,
             image: policy.to_image(),
             last: policy.roles.len() as u8 - 1,
             refused,
+            runs: refused != [0, 0, 2],
             row: std::array::from_fn(|part| policy.files[0][8 + part].clone()),
         }
     }
