@@ -1,4 +1,5 @@
--- When a role passes a row, when its mediating sets fit, and what its bypass set has to hold (01, "Rows, roles and the test", "Requests"). Definitions only.
+-- When a role passes a row, when its mediating sets fit, and what its bypass set has to hold (01, "Rows, roles and the test", "Requests";
+-- 02, [2]). Definitions only.
 use mathlib.Core.Path.{_≡_}
 use mathlib.Core.List.{List}
 use mathlib.Core.Logic.{_⊎_}

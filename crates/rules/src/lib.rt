@@ -1,5 +1,5 @@
 // The rules: whether a role passes a row, whether its mediating sets fit, and whether its bypass
-// set has what a store needs (01, "Rows, roles and the test", "Requests").
+// set has what a store needs (01, "Rows, roles and the test", "Requests"; 02, [2]).
 use policy::File;
 use policy::Role;
 use securon::SecuronSet;
