@@ -23,7 +23,7 @@ use Rattle.gate.specs.Laws.{begin-granted}
 use Rattle.machine.specs.Machine.{Request, begin, change, bypass, Step}
 use Rattle.claims.specs.Demand2.{begin-granted-exactly, change-granted-exactly, bypass-granted-exactly}
 use Rattle.claims.specs.Sample.{root, sample, sample-well-formed, sample-free, sample-counts, sample-depth, sample-root}
-use Rattle.claims.specs.Sample.{sample-role0, sample-file1, heldBy, held-role, held-file}
+use Rattle.claims.specs.Sample.{sample-role0, sample-file1, heldBy}
 use Rattle.claims.specs.Examples.{row, its, held-is, changes-row, covered, none-in-order}
 use Rattle.claims.specs.Programs.{AllUnder, CodeState, CodeRequest, Program, Keeps, RefusesAlways, Answers0Always, NeverStores}
 use Rattle.claims.specs.Programs.{IsBegin, IsChange, IsBypass, RepeatsItself}
@@ -68,7 +68,7 @@ can-begin a t st = begin-granted-exactly sample 0 _ 0 st .1 (record {
 -- its session can change file 1's T1, and take its E away
 can-change : (a : Answer) (t : State) → Step (heldBy 0) (change 0 1 read root []) a t → Granted a
 can-change a t st =
-    let passes = changes-row (held-role 0 sample-role0) (held-file 0 sample-file1) in
+    let passes = changes-row (sample .tree) sample-role0 sample-file1 in
     change-granted-exactly (heldBy 0) 0 _ 1 read root [] st .1 (record {
       row = row (held-is 0 (lit< tt)) 1 (lit< tt) read changeProtection (lit< tt) passes;
       first = (0, sample-depth, (lit≤ tt, inr (term (one 0), sample-root, refl)));
@@ -77,8 +77,8 @@ can-change a t st =
 
 can-bypass : (a : Answer) (t : State) → Step (heldBy 0) (bypass 0 1 read [] []) a t → Granted a
 can-bypass a t st =
-    let passes = changes-row (held-role 0 sample-role0) (held-file 0 sample-file1) in
-    let covers = covered 1 (lit< tt) (held-file 0 sample-file1) [] (inl refl) (inr refl) in
+    let passes = changes-row (sample .tree) sample-role0 sample-file1 in
+    let covers = covered 1 (lit< tt) sample-file1 [] (inl refl) (inr refl) in
     bypass-granted-exactly (heldBy 0) 0 _ 1 read [] [] st .1 (record {
       store = record {
         row = row (held-is 0 (lit< tt)) 1 (lit< tt) read changeProtection (lit< tt) passes;

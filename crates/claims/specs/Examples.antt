@@ -17,14 +17,16 @@ use Rattle.expression.specs.Bytes.{SET, MeetsT1, InOrder}
 use Rattle.expression.specs.Laws.{meets-term}
 use Rattle.expression.specs.Scan.{bytes-some}
 use Rattle.expression.specs.Unique.{one-expression}
-use Rattle.policy.specs.State.{IsMode, read, write, execute, changeProtection, Free, By, roleIn, roleOf, holdOf, freshState}
+use Rattle.policy.specs.State.{IsMode, read, write, execute, changeProtection, Free, By, roleAt, fileAt, roleIn, roleOf, holdOf, freshState}
 use Rattle.policy.specs.State.{withHold, withEG, t1Of, eOf, t2Of, gOf}
+use Rattle.policy.specs.declared.Role.{Role}
+use Rattle.policy.specs.declared.File.{File}
 use Rattle.policy.specs.declared.State.{State}
 use Rattle.policy.specs.WellFormed.{WellFormed}
 use Rattle.policy.specs.Whole.{free-held}
 use Rattle.policy.specs.Kept.{by-kept, free-kept, eg-kept}
 use Rattle.policy.specs.Reads.{hold-here}
-use Rattle.rules.specs.Rules.{PassesRow, Passes, TakesContentOut, Mediates, Covers}
+use Rattle.rules.specs.Rules.{PassesRow, RolePasses, Passes, TakesContentOut, RoleMediates, Mediates, Covers}
 use Rattle.rules.specs.Laws.{out-fits, write-fits}
 use Rattle.gate.specs.Granted.{SessionGranted, RowGranted, BypassGranted}
 use Rattle.gate.specs.Requests.{mediated}
@@ -38,7 +40,7 @@ use Rattle.claims.specs.MoveLaws.{move-confines}
 use Rattle.claims.specs.Sample.{root, sampleImage, sample, sample-loads, sample-well-formed, sample-depth, sample-root, sample-free, sample-counts}
 use Rattle.claims.specs.Sample.{freed-again, RoleParts, FileParts, sample-role0, sample-role1, sample-role2}
 use Rattle.claims.specs.Sample.{sample-file0, sample-file1, sample-file2, sample-file3}
-use Rattle.claims.specs.Sample.{heldBy, raised, lowered, held-role, held-file, raised-role}
+use Rattle.claims.specs.Sample.{heldBy, raised, lowered}
 use Rattle.claims.specs.Sample.{raised-file0, raised-file2, lowered-file0, lowered-file1}
 
 -- who is in the sets of the sample: 0 in {0}, nobody in length 0
@@ -70,23 +72,23 @@ t1-row t vMinus = record {
 }
 
 -- what a role passes by its parts and a file's
-module _ {s : State} {role file : ℕ} {v m b t e : List ℕ} (r : RoleParts s role v m b) (f : FileParts s file t e) where
-  reads-row : PassesRow (s .tree) (SET (s .tree) v) (SET (s .tree) []) t e [] [] → Passes s role file read
+module _ (tree : Tree) {role : Role} {file : File} {v m b t e : List ℕ} (r : RoleParts role v m b) (f : FileParts file t e) where
+  reads-row : PassesRow tree (SET tree v) (SET tree []) t e [] [] → RolePasses tree role file read
   reads-row p = rw (r .v-plus, r .v-minus, f .t1, f .e, f .t2, f .g) p
 
-  writes-row : Passes s role file write
-  writes-row = rw (r .other-plus .0, r .other-minus .0, f .other-t1 .0, f .other-e .0, f .other-t2 .0, f .other-g .0) (empty-row (s .tree) _ _)
+  writes-row : RolePasses tree role file write
+  writes-row = rw (r .other-plus .0, r .other-minus .0, f .other-t1 .0, f .other-e .0, f .other-t2 .0, f .other-g .0) (empty-row tree _ _)
 
-  executes-row : Passes s role file execute
-  executes-row = rw (r .other-plus .1, r .other-minus .1, f .other-t1 .1, f .other-e .1, f .other-t2 .1, f .other-g .1) (empty-row (s .tree) _ _)
+  executes-row : RolePasses tree role file execute
+  executes-row = rw (r .other-plus .1, r .other-minus .1, f .other-t1 .1, f .other-e .1, f .other-t2 .1, f .other-g .1) (empty-row tree _ _)
 
-  pub changes-row : Passes s role file changeProtection
-  changes-row = rw (r .other-plus .2, r .other-minus .2, f .other-t1 .2, f .other-e .2, f .other-t2 .2, f .other-g .2) (empty-row (s .tree) _ _)
+  pub changes-row : RolePasses tree role file changeProtection
+  changes-row = rw (r .other-plus .2, r .other-minus .2, f .other-t1 .2, f .other-e .2, f .other-t2 .2, f .other-g .2) (empty-row tree _ _)
 
-  out-mediated : {mode : ℕ} → TakesContentOut mode → SET (s .tree) e ⊆ SET (s .tree) m → Mediates s role file mode
+  out-mediated : {mode : ℕ} → TakesContentOut mode → SET tree e ⊆ SET tree m → RoleMediates tree role file mode
   out-mediated o h = out-fits o .0 (rw (r .m1, f .e) h, rw (r .m2, f .g) (λ u x. x))
 
-  writes-mediated : SET (s .tree) m ⊆ SET (s .tree) e → Mediates s role file write
+  writes-mediated : SET tree m ⊆ SET tree e → RoleMediates tree role file write
   writes-mediated h = write-fits refl .0 (rw (r .m1, f .e) h, rw (r .m2, f .g) (λ u x. x))
 
 -- a state with four files in which slot 0 is held by the role
@@ -114,16 +116,16 @@ module _ {s : State} {role : ℕ} (h : InSession s role) where
     asked : (mode : ℕ) → IsMode mode → Passes s role file mode → Mediates s role file mode → Step s (ask 0 file mode) granted s
     asked mode m p q = ask-step s 0 file mode (record { row = row mode mode m p; mediates = its (λ r. Mediates s r file mode) q })
 
-    module _ {v m b t e : List ℕ} (r : RoleParts s role v m b) (f : FileParts s file t e) where
+    module _ {v m b t e : List ℕ} (r : RoleParts (roleAt s role) v m b) (f : FileParts (fileAt s file) t e) where
       asked-read : PassesRow (s .tree) (SET (s .tree) v) (SET (s .tree) []) t e [] [] → SET (s .tree) e ⊆ SET (s .tree) m
           → Step s (ask 0 file read) granted s
-      asked-read p q = asked read (lit< tt) (reads-row r f p) (out-mediated r f (inl refl) q)
+      asked-read p q = asked read (lit< tt) (reads-row (s .tree) r f p) (out-mediated (s .tree) r f (inl refl) q)
 
       asked-execute : SET (s .tree) e ⊆ SET (s .tree) m → Step s (ask 0 file execute) granted s
-      asked-execute q = asked execute (lit< tt) (executes-row r f) (out-mediated r f (inr refl) q)
+      asked-execute q = asked execute (lit< tt) (executes-row (s .tree) r f) (out-mediated (s .tree) r f (inr refl) q)
 
       asked-write : SET (s .tree) m ⊆ SET (s .tree) e → Step s (ask 0 file write) granted s
-      asked-write q = asked write (lit< tt) (writes-row r f) (writes-mediated r f q)
+      asked-write q = asked write (lit< tt) (writes-row (s .tree) r f) (writes-mediated (s .tree) r f q)
 
 -- the sample held by one of its roles
 pub held-is : (role : ℕ) → role < 3 → InSession (heldBy role) role
@@ -200,14 +202,14 @@ oneMove mode = outThenWrite mode 0 0 1 []
 out-then-run : (mode : ℕ) → Step (heldBy 0) (ask 0 0 mode) granted (heldBy 0) → (later : List GateEvent) (t : State) → GateRun (heldBy 0) later t
     → GateRun sample (outThenWrite mode 0 0 1 later) t
 out-then-run mode out later t r =
-    let writes = asked-write (held-is 0 (lit< tt)) 1 (lit< tt) (held-role 0 sample-role0) (held-file 0 sample-file1) (λ u x. x) in
+    let writes = asked-write (held-is 0 (lit< tt)) 1 (lit< tt) sample-role0 sample-file1 (λ u x. x) in
     next (begun 0 (lit< tt)) (next out (next writes r))
 
 reads-first : Step (heldBy 0) (ask 0 0 read) granted (heldBy 0)
-reads-first = asked-read (held-is 0 (lit< tt)) 0 (lit< tt) (held-role 0 sample-role0) (held-file 0 sample-file0) (e-row _ _) (λ u x. x)
+reads-first = asked-read (held-is 0 (lit< tt)) 0 (lit< tt) sample-role0 sample-file0 (e-row _ _) (λ u x. x)
 
 executes-first : Step (heldBy 0) (ask 0 0 execute) granted (heldBy 0)
-executes-first = asked-execute (held-is 0 (lit< tt)) 0 (lit< tt) (held-role 0 sample-role0) (held-file 0 sample-file0) (λ u x. x)
+executes-first = asked-execute (held-is 0 (lit< tt)) 0 (lit< tt) sample-role0 sample-file0 (λ u x. x)
 
 pub record ContentMovesAfterALoad (mode : ℕ) : Type 0 where
   pub after : AfterLoad sample (heldBy 0) (oneMove mode)
@@ -254,7 +256,7 @@ two-sessions-run =
     (next reads-first
     (next (end-step (heldBy 0) 0 (session h))
     (next (subst (Step ended (begin 0 1) granted) (freed-again 0 1) again)
-    (next (asked-write (held-is 1 (lit< tt)) 2 (lit< tt) (held-role 1 sample-role1) (held-file 1 sample-file2) (λ u x. x))
+    (next (asked-write (held-is 1 (lit< tt)) 2 (lit< tt) sample-role1 sample-file2 (λ u x. x))
     none))))
 
 pub sessions-are-told-apart : OldSessionsReadIsNotTheNewOnes
@@ -283,11 +285,11 @@ pub record MutablePartsWouldBreakIt : Type 0 where
 pub mutable-parts-have-no-say : MutablePartsWouldBreakIt
 mutable-parts-have-no-say =
     let h = held-is 2 (lit< tt) in
-    let role = held-role 2 sample-role2 in
+    let role = sample-role2 in
     let run =
     next (begun 2 (lit< tt))
-    (next (asked-read h 3 (lit< tt) role (held-file 2 sample-file3) (t1-row _ _) (λ u x. x))
-    (next (asked-write h 2 (lit< tt) role (held-file 2 sample-file2) (λ u x. x))
+    (next (asked-read h 3 (lit< tt) role sample-file3 (t1-row _ _) (λ u x. x))
+    (next (asked-write h 2 (lit< tt) role sample-file2 (λ u x. x))
     none)) in
     record {
       after = after-load run ((λ g r. r), ((λ g r. r), ((λ g r. r), tt)));
@@ -309,7 +311,7 @@ root-in-order = (lit≤ tt, inr (term (one 0), sample-root, refl))
 pub none-in-order : InOrder Privilege (sample .tree .n) 0 []
 none-in-order = (lit≤ tt, inl refl)
 
-module _ (file : ℕ) (few : file < 4) {t e : List ℕ} (f : FileParts (heldBy 0) file t e) (new : List ℕ) where
+module _ (file : ℕ) (few : file < 4) {t e : List ℕ} (f : FileParts (fileAt (heldBy 0) file) t e) (new : List ℕ) where
   pub covered : (e ≡ root) ⊎ (e ≡ []) → (new ≡ root) ⊎ (new ≡ []) → Covers (heldBy 0) 0 file read new []
   covered was is = record {
     of-e = λ u. ⊎-elim (λ w. rw (sample-role0 .b) (within u new is (w .0))) (λ w. rw (sample-role0 .b) (within u e was (rw (f .e) at (w .0))));
@@ -326,7 +328,7 @@ module _ (file : ℕ) (few : file < 4) {t e : List ℕ} (f : FileParts (heldBy 0
       → Step (heldBy 0) (bypass 0 file read new []) granted (withEG (heldBy 0) file read new [])
   bypassed o c =
       let h = held-is 0 (lit< tt) in
-      let changes = changes-row (held-role 0 sample-role0) f in
+      let changes = changes-row (sample .tree) sample-role0 f in
       bypass-step (heldBy 0) 0 file read new [] (record {
         store = record {
           row = row h file few read changeProtection (lit< tt) changes;
@@ -364,9 +366,9 @@ raised-held =
 
 pub a-bypass-breaks-it-for-the-loaded-state : ABypassBreaksItForTheLoadedState
 a-bypass-breaks-it-for-the-loaded-state =
-    let raising = bypassed 2 (lit< tt) (held-file 0 sample-file2) root root-in-order
-    (covered 2 (lit< tt) (held-file 0 sample-file2) root (inr refl) (inl refl)) in
-    let role = raised-role sample-role0 in
+    let raising = bypassed 2 (lit< tt) sample-file2 root root-in-order
+    (covered 2 (lit< tt) sample-file2 root (inr refl) (inl refl)) in
+    let role = sample-role0 in
     record {
       loads = sample-loads;
       run =
@@ -406,8 +408,8 @@ pub record ABypassBreaksItForThePresentState : Type 0 where
 
 pub a-bypass-breaks-it-for-the-present-state : ABypassBreaksItForThePresentState
 a-bypass-breaks-it-for-the-present-state =
-    let lowering = bypassed 1 (lit< tt) (held-file 0 sample-file1) [] none-in-order
-    (covered 1 (lit< tt) (held-file 0 sample-file1) [] (inl refl) (inr refl)) in
+    let lowering = bypassed 1 (lit< tt) sample-file1 [] none-in-order
+    (covered 1 (lit< tt) sample-file1 [] (inl refl) (inr refl)) in
     record {
       loads = sample-loads;
       run = out-then-run read reads-first _ lowered (next lowering none);
@@ -437,10 +439,9 @@ pub record AnExecuteWouldBreakIt : Type 0 where
 pub by-the-row-alone-it-would-be-false : AnExecuteWouldBreakIt
 by-the-row-alone-it-would-be-false =
     let h = held-is 1 (lit< tt) in
-    let role = held-role 1 sample-role1 in
-    let runs = row h 0 (lit< tt) execute execute (lit< tt) (executes-row role (held-file 1 sample-file0)) in
-    let writes = row h 2 (lit< tt) write write (lit< tt) (writes-row role (held-file 1 sample-file2)) in
-    let fits = its h (λ r. Mediates (heldBy 1) r 2 write) (writes-mediated role (held-file 1 sample-file2) (λ u x. x)) in
+    let runs = row h 0 (lit< tt) execute execute (lit< tt) (executes-row (sample .tree) sample-role1 sample-file0) in
+    let writes = row h 2 (lit< tt) write write (lit< tt) (writes-row (sample .tree) sample-role1 sample-file2) in
+    let fits = its h (λ r. Mediates (heldBy 1) r 2 write) (writes-mediated (sample .tree) sample-role1 sample-file2 (λ u x. x)) in
     let ran : StepBefore (heldBy 1) (ask 0 0 execute) granted (heldBy 1) =
     record { decides = row-holds (mediatedBefore (heldBy 1) 0 0 execute ∷ []) runs (inr (inl refl, (refl, refl))); leaves = made _ _ } in
     let wrote : StepBefore (heldBy 1) (ask 0 2 write) granted (heldBy 1) =

@@ -11,9 +11,11 @@ use Rattle.tree.specs.Depth.{depthOf, largest, levelOf}
 use Rattle.expression.specs.declared.Kind.{Kind}
 use Rattle.expression.specs.Expression.{one, term}
 use Rattle.expression.specs.Bytes.{InOrder}
-use Rattle.policy.specs.State.{Free, By, read, write, execute, changeProtection, vPlusPlace, m1Place, bPlace, t1Place, ePlace, freshState, withHold, holdOf}
-use Rattle.policy.specs.State.{vPlusOf, vMinusOf, m1Of, m2Of, bOf, t1Of, eOf, t2Of, gOf, withEG}
+use Rattle.policy.specs.declared.Role.{Role}
+use Rattle.policy.specs.declared.File.{File}
 use Rattle.policy.specs.declared.State.{State}
+use Rattle.policy.specs.State.{Free, By, read, write, execute, changeProtection, freshState, withHold, withEG, holdOf, roleAt, fileAt, rolePart, filePart}
+use Rattle.policy.specs.State.{vPlusPlace, vMinusPlace, m1Place, m2Place, bPlace, t1Place, ePlace, t2Place, gPlace}
 use Rattle.shelf.specs.Shelf.{putBytes, padded}
 use Rattle.policy.specs.WellFormed.{WellFormed}
 use Rattle.policy.specs.Fresh.{root-depth}
@@ -109,26 +111,27 @@ freed-again x y = refl
 abbrev pub NoneBeside : (ℕ → List ℕ) → Type 0
 NoneBeside part = (part write ≡ []) × (part execute ≡ []) × (part changeProtection ≡ [])
 
-pub record RoleParts (s : State) (role : ℕ) (reading mediating bypassing : List ℕ) : Type 0 where
-  pub v-plus : vPlusOf s role read ≡ reading
-  pub v-minus : vMinusOf s role read ≡ []
-  pub other-plus : NoneBeside (vPlusOf s role)
-  pub other-minus : NoneBeside (vMinusOf s role)
-  pub m1 : m1Of s role ≡ mediating
-  pub m2 : m2Of s role ≡ []
-  pub b : bOf s role ≡ bypassing
+-- the parts of a role of the sample, and those of a file
+pub record RoleParts (r : Role) (reading mediating bypassing : List ℕ) : Type 0 where
+  pub v-plus : rolePart r (vPlusPlace read) ≡ reading
+  pub v-minus : rolePart r (vMinusPlace read) ≡ []
+  pub other-plus : NoneBeside (λ mode. rolePart r (vPlusPlace mode))
+  pub other-minus : NoneBeside (λ mode. rolePart r (vMinusPlace mode))
+  pub m1 : rolePart r m1Place ≡ mediating
+  pub m2 : rolePart r m2Place ≡ []
+  pub b : rolePart r bPlace ≡ bypassing
 
-pub record FileParts (s : State) (file : ℕ) (mutable indelible : List ℕ) : Type 0 where
-  pub t1 : t1Of s file read ≡ mutable
-  pub e : eOf s file read ≡ indelible
-  pub t2 : t2Of s file read ≡ []
-  pub g : gOf s file read ≡ []
-  pub other-t1 : NoneBeside (t1Of s file)
-  pub other-e : NoneBeside (eOf s file)
-  pub other-t2 : NoneBeside (t2Of s file)
-  pub other-g : NoneBeside (gOf s file)
+pub record FileParts (f : File) (mutable indelible : List ℕ) : Type 0 where
+  pub t1 : filePart f (t1Place read) ≡ mutable
+  pub e : filePart f (ePlace read) ≡ indelible
+  pub t2 : filePart f (t2Place read) ≡ []
+  pub g : filePart f (gPlace read) ≡ []
+  pub other-t1 : NoneBeside (λ mode. filePart f (t1Place mode))
+  pub other-e : NoneBeside (λ mode. filePart f (ePlace mode))
+  pub other-t2 : NoneBeside (λ mode. filePart f (t2Place mode))
+  pub other-g : NoneBeside (λ mode. filePart f (gPlace mode))
 
-pub sample-role0 : RoleParts sample 0 root root root
+pub sample-role0 : RoleParts (roleAt sample 0) root root root
 unfolding sample asRole padded flatMap
 sample-role0 = record {
   v-plus = refl;
@@ -140,7 +143,7 @@ sample-role0 = record {
   b = refl;
 }
 
-pub sample-role1 : RoleParts sample 1 [] [] []
+pub sample-role1 : RoleParts (roleAt sample 1) [] [] []
 unfolding sample asRole padded flatMap
 sample-role1 = record {
   v-plus = refl;
@@ -152,7 +155,7 @@ sample-role1 = record {
   b = refl;
 }
 
-pub sample-role2 : RoleParts sample 2 root [] []
+pub sample-role2 : RoleParts (roleAt sample 2) root [] []
 unfolding sample asRole padded flatMap
 sample-role2 = record {
   v-plus = refl;
@@ -164,7 +167,7 @@ sample-role2 = record {
   b = refl;
 }
 
-pub sample-file0 : FileParts sample 0 [] root
+pub sample-file0 : FileParts (fileAt sample 0) [] root
 unfolding sample asFile padded flatMap
 sample-file0 = record {
   t1 = refl;
@@ -177,7 +180,7 @@ sample-file0 = record {
   other-g = (refl, refl, refl);
 }
 
-pub sample-file1 : FileParts sample 1 [] root
+pub sample-file1 : FileParts (fileAt sample 1) [] root
 unfolding sample asFile padded flatMap
 sample-file1 = record {
   t1 = refl;
@@ -190,7 +193,7 @@ sample-file1 = record {
   other-g = (refl, refl, refl);
 }
 
-pub sample-file2 : FileParts sample 2 [] []
+pub sample-file2 : FileParts (fileAt sample 2) [] []
 unfolding sample asFile padded flatMap
 sample-file2 = record {
   t1 = refl;
@@ -203,7 +206,7 @@ sample-file2 = record {
   other-g = (refl, refl, refl);
 }
 
-pub sample-file3 : FileParts sample 3 root []
+pub sample-file3 : FileParts (fileAt sample 3) root []
 unfolding sample asFile padded flatMap
 sample-file3 = record {
   t1 = refl;
@@ -216,7 +219,8 @@ sample-file3 = record {
   other-g = (refl, refl, refl);
 }
 
--- the sample with slot 0 held by a role; then, with role 0, after a bypass that gives file 2 the E of file 0, and after one that takes file 1's E away
+-- the sample with slot 0 held by a role; then, with role 0, after a bypass that gives file 2 the E of file 0, and after one that takes file 1's E away.
+-- A hold alters no role and no file, a bypass no role and no other file
 abbrev pub heldBy : ℕ → State
 heldBy role = withHold sample 0 (By role)
 
@@ -226,20 +230,11 @@ raised = withEG (heldBy 0) 2 read root []
 abbrev pub lowered : State
 lowered = withEG (heldBy 0) 1 read [] []
 
-pub raised-file0 : FileParts raised 0 [] root
+pub raised-file0 : FileParts (fileAt raised 0) [] root
 unfolding sample asFile padded putBytes flatMap
-raised-file0 = record {
-  t1 = refl;
-  e = refl;
-  t2 = refl;
-  g = refl;
-  other-t1 = (refl, refl, refl);
-  other-e = (refl, refl, refl);
-  other-t2 = (refl, refl, refl);
-  other-g = (refl, refl, refl);
-}
+raised-file0 = sample-file0
 
-pub raised-file2 : FileParts raised 2 [] root
+pub raised-file2 : FileParts (fileAt raised 2) [] root
 unfolding sample asFile padded putBytes flatMap
 raised-file2 = record {
   t1 = refl;
@@ -252,20 +247,11 @@ raised-file2 = record {
   other-g = (refl, refl, refl);
 }
 
-pub lowered-file0 : FileParts lowered 0 [] root
+pub lowered-file0 : FileParts (fileAt lowered 0) [] root
 unfolding sample asFile padded putBytes flatMap
-lowered-file0 = record {
-  t1 = refl;
-  e = refl;
-  t2 = refl;
-  g = refl;
-  other-t1 = (refl, refl, refl);
-  other-e = (refl, refl, refl);
-  other-t2 = (refl, refl, refl);
-  other-g = (refl, refl, refl);
-}
+lowered-file0 = sample-file0
 
-pub lowered-file1 : FileParts lowered 1 [] []
+pub lowered-file1 : FileParts (fileAt lowered 1) [] []
 unfolding sample asFile padded putBytes flatMap
 lowered-file1 = record {
   t1 = refl;
@@ -276,41 +262,4 @@ lowered-file1 = record {
   other-e = (refl, refl, refl);
   other-t2 = (refl, refl, refl);
   other-g = (refl, refl, refl);
-}
-
--- a hold alters no part of a role or a file, and a bypass none of a role
-pub held-role : (x : ℕ) {role : ℕ} {reading mediating bypassing : List ℕ} → RoleParts sample role reading mediating bypassing
-    → RoleParts (heldBy x) role reading mediating bypassing
-held-role x r = record {
-  v-plus = r .v-plus;
-  v-minus = r .v-minus;
-  other-plus = r .other-plus;
-  other-minus = r .other-minus;
-  m1 = r .m1;
-  m2 = r .m2;
-  b = r .b;
-}
-
-pub held-file : (x : ℕ) {file : ℕ} {mutable indelible : List ℕ} → FileParts sample file mutable indelible → FileParts (heldBy x) file mutable indelible
-held-file x f = record {
-  t1 = f .t1;
-  e = f .e;
-  t2 = f .t2;
-  g = f .g;
-  other-t1 = f .other-t1;
-  other-e = f .other-e;
-  other-t2 = f .other-t2;
-  other-g = f .other-g;
-}
-
-pub raised-role : {role : ℕ} {reading mediating bypassing : List ℕ} → RoleParts sample role reading mediating bypassing
-    → RoleParts raised role reading mediating bypassing
-raised-role r = record {
-  v-plus = r .v-plus;
-  v-minus = r .v-minus;
-  other-plus = r .other-plus;
-  other-minus = r .other-minus;
-  m1 = r .m1;
-  m2 = r .m2;
-  b = r .b;
 }
