@@ -11,7 +11,8 @@ use lib.Seq.{ext-getD}
 use Rattle.securon.specs.declared.Level.{Level}
 use Rattle.tree.specs.declared.Tree.{Tree}
 use Rattle.tree.specs.declared.Levels.{Levels}
-use Rattle.tree.specs.Tree.{Reaches, here, up, Related, HasLevel, root, child, Climbs, IsTree, IsDepth, rootLevel, levelIn, LevelsOf}
+use Rattle.tree.specs.Tree.{Reaches, here, up, Related, Equal, Above, Below, EqualAboveOrBelow, Climbs}
+use Rattle.tree.specs.Tree.{HasLevel, root, child, IsTree, IsDepth, rootLevel, levelIn, LevelsOf}
 
 -- a walk that is not at its end goes on from the parent
 pub reaches-up : {p : List ℕ} {a b : ℕ} → Reaches p a b → (a ≡ b → ⊥) → Reaches p (getD p a 0) b
@@ -46,15 +47,47 @@ one-level root (child h l) e = absurd (omega arith)
 one-level (child h l) root e = absurd (omega arith)
 one-level {p} (child h l) (child g m) e = ap suc (one-level l m (ap (λ (x : ℕ). getD p x 0) e))
 
--- two securons are related exactly if the walk from the larger number reaches the smaller
-pub related-below : {p : List ℕ} {a b : ℕ} → Climbs p a → Climbs p b → b ≤ a → Reaches p a b ↔ Related p a b
-related-below {p} {a} {b} ca cb h = (inl, ⊎-elim (λ r. r) (λ r. subst (Reaches p a) (same r) here))
-  where
-    same : Reaches p b a → a ≡ b
-    same r = omega (arith, reaches-smaller r cb)
+-- a walk ends where it began, or above: so what is related is equal, above or below
+kind-of : {p : List ℕ} {u s : ℕ} → Related p u s → EqualAboveOrBelow p u s
+kind-of (inl here) = inl refl
+kind-of (inl (up h r)) = inr (inr (h, r))
+kind-of (inr here) = inl refl
+kind-of (inr (up h r)) = inr (inl (h, r))
 
-pub related-sym : {p : List ℕ} {a b : ℕ} → Related p a b ↔ Related p b a
-related-sym = (⊎-elim inr inl, ⊎-elim inr inl)
+-- and what is equal, above or below is related
+related-so : {p : List ℕ} {u s : ℕ} → EqualAboveOrBelow p u s → Related p u s
+related-so {p} {u} {s} (inl e) = inl (subst (Reaches p u) e here)
+related-so (inr (inl a)) = inr (up (a .0) (a .1))
+related-so (inr (inr b)) = inl (up (b .0) (b .1))
+
+-- the three kinds are what `Related` is
+pub three-kinds : {p : List ℕ} {u s : ℕ} → EqualAboveOrBelow p u s ↔ Related p u s
+three-kinds = (related-so, kind-of)
+
+-- where u is neither equal to s nor above s, it is related to s exactly if it is below s
+pub related-below : {p : List ℕ} {u s : ℕ} → (Equal u s → ⊥) → (Above p u s → ⊥) → Below p u s ↔ Related p u s
+related-below not-equal not-above = (
+  (λ b. three-kinds .0 (inr (inr b))),
+  (λ r. ⊎-elim (λ e. absurd (not-equal e)) (⊎-elim (λ a. absurd (not-above a)) (λ b. b)) (three-kinds .1 r)),
+)
+
+-- what is above has a smaller number
+pub above-smaller : {p : List ℕ} {u s : ℕ} → Climbs p s → Above p u s → u < s
+above-smaller {p} {u} {s} c a =
+    let less = c .smaller s (a .0) (le-refl (suc s)) in omega (arith, reaches-smaller (a .1) (climbs-up c (a .0)))
+
+-- so what has a smaller number than s is above s exactly if the walk from s reaches it
+pub above-walk : {p : List ℕ} {u s : ℕ} → u < s → Reaches p s u ↔ Above p u s
+above-walk h = ((λ r. (omega arith, reaches-up r (λ e. omega arith))), λ a. up (a .0) (a .1))
+
+-- two securons are related in one way at most
+pub one-kind : {p : List ℕ} {u s : ℕ} → Climbs p u → Climbs p s
+    → (Equal u s → Above p u s → ⊥) × (Equal u s → Below p u s → ⊥) × (Above p u s → Below p u s → ⊥)
+one-kind cu cs = (
+  (λ e a. omega (arith, above-smaller cs a)),
+  (λ e b. omega (arith, above-smaller cu b)),
+  (λ a b. omega (arith, above-smaller cs a, above-smaller cu b)),
+)
 
 -- a tree has one depth
 pub one-depth : {t : Tree} {d e : ℕ} → IsDepth t d → IsDepth t e → d ≡ e

@@ -40,6 +40,23 @@ pub data Reaches (parent : List ℕ) : ℕ → ℕ → Type 0 where
 abbrev pub Related : List ℕ → ℕ → ℕ → Type 0
 Related parent a b = Reaches parent a b ⊎ Reaches parent b a
 
+-- the three kinds of related (002, 2.3: "u related to s means u is an ancestor, descendent, or is equal to s"):
+-- u is equal to s;
+abbrev pub Equal : ℕ → ℕ → Type 0
+Equal u s = u ≡ s
+
+-- u is above s, an ancestor of it: walking up from the parent of s reaches u. Nobody is above the root;
+abbrev pub Above : List ℕ → ℕ → ℕ → Type 0
+Above parent u s = (0 < s) × Reaches parent (getD parent s 0) u
+
+-- u is below s, a descendant of it: s is above u
+abbrev pub Below : List ℕ → ℕ → ℕ → Type 0
+Below parent u s = Above parent s u
+
+-- the three side by side, which are what `Related` is: `three-kinds` in tree/Laws
+abbrev pub EqualAboveOrBelow : List ℕ → ℕ → ℕ → Type 0
+EqualAboveOrBelow parent u s = Equal u s ⊎ Above parent u s ⊎ Below parent u s
+
 -- the root's level is 0, a child's is its parent's plus 1
 pub data HasLevel (parent : List ℕ) : ℕ → ℕ → Type 0 where
   root : HasLevel parent 0 0

@@ -5,7 +5,7 @@ use securon::Securon;
 ghost use mathlib.Core.Path.{_≡_};
 ghost use mathlib.Core.Bool.{true};
 ghost use mathlib.Core.Logic.{_↔_};
-ghost use Rattle.tree.specs.Tree.{Reaches, Related, Climbs, IsTree, LevelsOf};
+ghost use Rattle.tree.specs.Tree.{Reaches, Related, Equal, Above, Below, Climbs, IsTree, LevelsOf};
 
 // The most securons that a tree has.
 pub const MOST: usize = 64;
@@ -56,15 +56,44 @@ fn reaches(parent: &[u8; ROOM], low: Securon, high: Securon) -> bool
     }
 }
 
-// Whether two securons are related. The walk starts at the larger number: from the smaller one it could only reach smaller ones.
+// Whether u is equal to s.
+fn equal(u: Securon, s: Securon) -> bool
+    ensures { λ r. ⌜ (r ≡ true) ↔ Equal (u .0) (s .0) ⌝ }
+{
+    u.0 == s.0
+}
+
+// Whether u is above s, an ancestor: walking up parents from s reaches it. What is above has a smaller number; s itself is not above s.
+fn above(parent: &[u8; ROOM], u: Securon, s: Securon) -> bool
+    requires { ⌜ Climbs (now parent) (u .0) × Climbs (now parent) (s .0) ⌝ }
+    ensures { λ r. ⌜ (r ≡ true) ↔ Above (now (parent .entry)) (u .0) (s .0) ⌝ }
+{
+    if s.0 <= u.0 {
+        return false;
+    }
+    reaches(parent, s, u)
+}
+
+// Whether u is below s, a descendant: s is above u.
+fn below(parent: &[u8; ROOM], u: Securon, s: Securon) -> bool
+    requires { ⌜ Climbs (now parent) (u .0) × Climbs (now parent) (s .0) ⌝ }
+    ensures { λ r. ⌜ (r ≡ true) ↔ Below (now (parent .entry)) (u .0) (s .0) ⌝ }
+{
+    above(parent, s, u)
+}
+
+// Whether two securons are related: equal, or the one above or below the other (002, 2.3: "an ancestor, descendent, or is equal").
 pub fn related(parent: &[u8; ROOM], a: Securon, b: Securon) -> bool
     requires { ⌜ Climbs (now parent) (a .0) × Climbs (now parent) (b .0) ⌝ }
     ensures { λ r. ⌜ (r ≡ true) ↔ Related (now (parent .entry)) (a .0) (b .0) ⌝ }
 {
-    if b.0 <= a.0 {
-        return reaches(parent, a, b);
+    if equal(a, b) {
+        return true;
     }
-    reaches(parent, b, a)
+    if above(parent, a, b) {
+        return true;
+    }
+    below(parent, a, b)
 }
 
 impl Tree {

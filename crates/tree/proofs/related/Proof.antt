@@ -1,26 +1,31 @@
--- `tree::related` meets its contract: of the two walks the one from the smaller number could only reach smaller ones. Assumes nothing.
-use native.Mathlib.Omega.{arith}
-use Rattle.logic.specs.Iff.{iff-trans}
-use Rattle.tree.specs.Laws.{related-below, related-sym}
+-- `tree::related` meets its contract: equal, above and below are what related is. Assumes nothing.
+use mathlib.Core.Logic.{inl, inr}
 use borrow.Author.Needs.{needs}
+use Rattle.logic.specs.Iff.{yes-iff, iff-trans, not-then-false}
+use Rattle.tree.specs.Laws.{three-kinds, related-below}
 use Rattle.tree.proofs.related.Statement.{statement}
 use Rattle.tree.proofs.related.Tie as tie
 
-reaches-requires : tie.Need-reaches-requires
-reaches-requires c κs = search needs
+equal-requires : tie.Need-equal-requires
+equal-requires c κs = search needs
 
 returns : tie.Need-returns
-returns c =
-    let p = c .before .before .before .before .pre in
-    iff-trans (c .reaches .ensures) (related-below (p .0) (p .1) (omega arith))
+returns c = yes-iff (three-kinds .0 (inl (c .before .equal .ensures .0 (c .if1 .taken))))
 
-reaches-requires-2 : tie.Need-reaches-requires-2
-reaches-requires-2 c κs = search needs
+above-requires : tie.Need-above-requires
+above-requires c κs = search needs
 
 returns-2 : tie.Need-returns-2
-returns-2 c =
-    let p = c .before .before .before .before .pre in
-    iff-trans (iff-trans (c .reaches2 .ensures) (related-below (p .1) (p .0) (omega arith))) related-sym
+returns-2 c = yes-iff (three-kinds .0 (inr (inl (c .before .above .ensures .0 (c .if2 .taken)))))
+
+below-requires : tie.Need-below-requires
+below-requires c κs = search needs
+
+returns-3 : tie.Need-returns-3
+returns-3 c =
+    let not-equal = not-then-false (c .before .before .before .before .equal .ensures) (c .before .before .before .if1 .left) in
+    let not-above = not-then-false (c .before .before .above .ensures) (c .before .if2 .left) in
+    iff-trans (c .below .ensures) (related-below not-equal not-above)
 
 pub related-spec : {M : Type 1} → statement M
-related-spec = tie.close (tie.spec reaches-requires returns reaches-requires-2 returns-2)
+related-spec = tie.close (tie.spec equal-requires returns above-requires returns-2 below-requires returns-3)
