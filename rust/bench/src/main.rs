@@ -3,6 +3,9 @@
 //! The first table is of calls on a box that is kept. In the others both sides go through replay, so
 //! a line printed per call is in every figure: a request's cost is a difference, of an input with the
 //! image, a begin and so many of the request, less the same input without them, over their number.
+//!
+//!     bench [SAMPLES]         the tables
+//!     bench --images DIR      writes each policy's image there; prints its name, file and last role
 
 mod clock;
 mod kept;
@@ -16,15 +19,37 @@ use std::hint::black_box;
 const MANY: usize = 100;
 
 fn main() {
-    let passes = match std::env::args().nth(1) {
-        None => 60,
-        Some(word) => word.parse().expect("a number of passes"),
-    };
-    let policies = [policies::fresh(), policies::typical(), policies::full()];
+    let policies = [
+        policies::fresh(),
+        policies::typical(),
+        policies::full(),
+        policies::deep(),
+    ];
+    let words: Vec<String> = std::env::args().skip(1).collect();
+    match words.iter().map(String::as_str).collect::<Vec<_>>()[..] {
+        [] => tables(&policies, 60),
+        ["--images", folder] => images(&policies, folder).expect("images are written"),
+        [passes] => tables(&policies, passes.parse().expect("a number of samples")),
+        _ => panic!("bench [SAMPLES], or bench --images DIR"),
+    }
+}
+
+/// Writes the images to a folder, for programs that time them by other means.
+fn images(policies: &[Timed], folder: &str) -> std::io::Result<()> {
+    for timed in policies {
+        let path = format!("{folder}/{}.image", timed.name);
+        std::fs::write(&path, &timed.image)?;
+        println!("{} {path} {}", timed.name, timed.last);
+    }
+    Ok(())
+}
+
+/// All tables.
+fn tables(policies: &[Timed], passes: usize) {
     println!("Best of {passes} samples a figure, the median in parentheses; library and twin in turn. The ratio is of the best.\n");
     println!("| policy | call on a box that is kept | library, ns | twin, ns | ratio |");
     println!("|---|---|---|---|---|");
-    for timed in &policies {
+    for timed in policies {
         kept::calls(timed, passes);
     }
     println!("\nBy replay; a load's figure is that of a whole replay of the image alone.\n");

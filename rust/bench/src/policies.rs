@@ -1,4 +1,4 @@
-//! The three policies that are timed, with a granted and a refused ask of each; and policies as
+//! The four policies that are timed, with a granted and a refused ask of each; and policies as
 //! large as asked.
 
 use twin::image::Policy;
@@ -185,6 +185,47 @@ fn longest(draw: usize, low: u8, high: u8, operators: &[u8]) -> Vec<u8> {
     bytes
 }
 
+/// 64 securons in two lines that part at the root, 32 roles, 32 files, every expression nine ranges.
+/// Role 0 holds every securon; V- of all lies on the upper levels, T2 and G on the lower; role 31
+/// holds the upper levels alone, which no E is within.
+pub fn deep() -> Timed {
+    const LAST: u8 = 31;
+    let role = |role: usize| {
+        std::array::from_fn(|which| {
+            let minus = which < M1 && which != plus(which / 2);
+            let last = if minus || role == 31 { 15 } else { LAST + 1 };
+            ranges(role + which, 0, last, &[3])
+        })
+    };
+    let file = |file: usize| {
+        std::array::from_fn(|which| match which % 2 {
+            0 => ranges(file + which, 16, LAST, &[3, 4]),
+            _ => ranges(file + which, 16, LAST, &[3]),
+        })
+    };
+    let policy = Policy {
+        parents: (1..64).map(|s: u8| s.saturating_sub(2)).collect(),
+        roles: (0..32).map(role).collect(),
+        files: (0..32).map(file).collect(),
+    };
+    Timed::new("deep", &policy, [1, 0, 0])
+}
+
+/// Nine ranges on the levels from `low` to `high` of two lines; all securons there are in the first,
+/// which is the root's.
+fn ranges(draw: usize, low: u8, high: u8, operators: &[u8]) -> Vec<u8> {
+    let mut bytes: Vec<u8> = (1..9)
+        .map(|k| operators[(k + draw) % operators.len()])
+        .collect();
+    bytes.extend([2, 0, low, high]);
+    for k in 1..9 {
+        let s = 1 + (7 * k + draw) % 63;
+        let i = low + (3 * k + draw) as u8 % (high - low);
+        bytes.extend([2, s as u8, i, (i + 9).min(high)]);
+    }
+    bytes
+}
+
 #[cfg(test)]
 mod tests {
     use super::*;
@@ -201,15 +242,18 @@ mod tests {
     #[test]
     fn the_calls_answer_as_the_table_says() {
         let expected = "0 0\n0 0\n0 0\n0 0\n14 0\n0 0\n0 0\n";
-        for (timed, last) in [(fresh(), 0), (typical(), 7), (full(), 31)] {
+        let policies = [(fresh(), 0), (typical(), 7), (full(), 31), (deep(), 31)];
+        for (timed, last) in policies {
             assert_eq!(timed.last, last);
-            assert_eq!(lines(&timed), expected);
+            assert_eq!(lines(&timed), expected, "{}", timed.name);
         }
     }
 
     #[test]
     fn the_sizes_are_those_named() {
         assert_eq!(full().image.len(), 51_815);
+        // 44 bytes and their length for each of 32 times 13 and 20 expressions.
+        assert_eq!(deep().image.len(), 5 + 64 + 1 + 1 + 32 * (13 + 20) * 45);
         let typical = typical().image;
         assert_eq!((typical[5], typical[25]), (20, 8));
         let mut at = 26;

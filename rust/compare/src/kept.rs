@@ -4,6 +4,7 @@
 //! after a granted call but ask and print the twin's state, else those before the call. Every slot,
 //! file and mode is asked after some sequences, and in one part after each granted call that alters
 //! the box. What is printed is read back, printed again, and looked at for needless parentheses.
+//! Every two securons of a tree are asked for, and the answer is what the twin's walk up parents says.
 
 mod box_call;
 mod damage;
@@ -11,6 +12,7 @@ mod layout;
 mod pair;
 mod parts;
 mod prints;
+mod related;
 mod tally;
 
 #[cfg(test)]

@@ -35,7 +35,7 @@ pub fn over(parents: &[u8]) -> Over {
 }
 
 /// Parents of a tree: a line, mostly a line, flat, or anything.
-fn parents(draw: &mut Draw, n: usize) -> Vec<u8> {
+pub fn parents(draw: &mut Draw, n: usize) -> Vec<u8> {
     let shape = draw.below(4);
     let parent = |s: usize| match shape {
         0 => s as u8 - 1,

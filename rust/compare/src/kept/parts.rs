@@ -4,6 +4,7 @@ use super::box_call::{load, BoxCall, PRINT};
 use super::damage::{damage, DAMAGES};
 use super::pair::{Kept, Pair, MOST_ROOM};
 use super::prints::PRINT_ROOM;
+use super::related::every_two;
 use super::tally::BoxTally;
 use crate::draw::Draw;
 use crate::parts::small;
@@ -16,7 +17,7 @@ use twin::image::Policy;
 type Round = fn(&mut Draw, &mut BoxTally) -> Result<(), String>;
 
 /// A part's name, its rounds in a short run, and what a round does.
-pub fn parts<B: Kept>() -> [(&'static str, usize, Round); 10] {
+pub fn parts<B: Kept>() -> [(&'static str, usize, Round); 11] {
     [
         ("a long life of a box", 22, life::<B>),
         ("all asked after each granted call", 10, all_asked::<B>),
@@ -28,6 +29,7 @@ pub fn parts<B: Kept>() -> [(&'static str, usize, Round); 10] {
         ("what is no record", 60, no_records::<B>),
         ("damaged boxes", 1500, damaged_box::<B>),
         ("any memory as a box", 40, any_memory::<B>),
+        ("every two securons of a tree", 12, every_two::<B>),
     ]
 }
 

@@ -3,7 +3,7 @@
 use super::box_call::{whole, BoxCall, PRINT};
 use super::damage::DAMAGES;
 use super::pair::{Said, NO_RECORD};
-use super::prints;
+use super::{prints, related};
 use crate::modes::ByMode;
 use crate::tally::{load_kind, request_kind, KINDS};
 use std::collections::BTreeMap;
@@ -177,11 +177,13 @@ impl BoxTally {
     }
 }
 
-/// All that has to be met on boxes: the kinds of place that can be, the kinds of prints, and the rest.
+/// All that has to be met on boxes: the kinds of place that can be, the kinds of prints and of two
+/// securons, and the rest.
 fn all_kinds() -> impl Iterator<Item = &'static str> {
     let of_box = |kind: &&str| kind.starts_with("load: ") || kind.starts_with("request: ");
     let places = KINDS.into_iter().filter(of_box);
-    places.chain(prints::all_kinds()).chain(BESIDES)
+    let others = prints::all_kinds().chain(related::KINDS);
+    places.chain(others).chain(BESIDES)
 }
 
 /// Why bytes are no record.
