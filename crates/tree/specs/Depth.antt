@@ -10,7 +10,7 @@ levelOf p zero a = 0
 levelOf p (suc f) zero = 0
 levelOf p (suc f) (suc a) = suc (levelOf p f (getD p (suc a) 0))
 
--- the largest level of the securons below k
+-- the largest level of the securons numbered below k
 unfoldable pub largest : List ℕ → ℕ → ℕ
 largest p zero = 0
 largest p (suc k) = max (largest p k) (levelOf p k k)

@@ -16,7 +16,7 @@ module _ (t : Tree) (tree : IsTree t) where
   abbrev level : ℕ → ℕ
   level u = levelOf (t .parent) u u
 
-  -- some securon below k has the largest level of those
+  -- some securon numbered below k has the largest level of those
   abbrev Reached : ℕ → Type 0
   Reached k = (u : ℕ) × (u < k) × (largest (t .parent) k ≡ level u)
 

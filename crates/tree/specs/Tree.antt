@@ -13,7 +13,7 @@ use Rattle.tree.specs.declared.Levels.{Levels}
 abbrev pub mostSecurons : ℕ
 mostSecurons = 64
 
--- of the securons below k, every other than the root has a parent with a smaller number
+-- of the securons numbered below k, every other than the root has a parent with a smaller number
 abbrev pub SmallerBelow : List ℕ → ℕ → Type 0
 SmallerBelow parent k = (u : ℕ) → 0 < u → u < k → getD parent u 0 < u
 

@@ -23,14 +23,14 @@ pub struct Levels {
     pub depth: Level,
 }
 
-// How a walk up parents ends: at the securon looked for; at the root; or below it, where it can only have missed it.
+// How a walk up parents ends: at the securon looked for; at the root; or past the one looked for, at a smaller number.
 enum Walk {
     Found,
     Root,
     Missed,
 }
 
-// Whether walking up parents from `low` reaches `high`. Parents are smaller, so a walk that has come below `high` has missed it.
+// Whether walking up parents from `low` reaches `high`. Parents are smaller, so a walk that stands at a smaller number than `high` has missed it.
 fn reaches(parent: &[u8; ROOM], low: Securon, high: Securon) -> bool
     requires { ⌜ Climbs (now parent) (low .0) ⌝ }
     ensures { λ r. ⌜ (r ≡ true) ↔ Reaches (now (parent .entry)) (low .0) (high .0) ⌝ }
@@ -127,8 +127,8 @@ impl Tree {
         let mut depth = Level(0);
         for u in 1..n {
             let up = self.parent[u];
-            let above = of[up as usize];
-            let level = above.next();
+            let upper = of[up as usize];
+            let level = upper.next();
             of[u] = level;
             if level.over(depth) {
                 depth = level;
