@@ -90,10 +90,7 @@ pub fn related(parent: &[u8; ROOM], a: Securon, b: Securon) -> bool
     if equal(a, b) {
         return true;
     }
-    if above(parent, a, b) {
-        return true;
-    }
-    below(parent, a, b)
+    above(parent, a, b) || below(parent, a, b)
 }
 
 impl Tree {

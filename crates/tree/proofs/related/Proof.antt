@@ -15,11 +15,11 @@ returns c = yes-iff (three-kinds .0 (inl (c .before .equal .ensures .0 (c .if1 .
 above-requires : tie.Need-above-requires
 above-requires c κs = search needs
 
-returns-2 : tie.Need-returns-2
-returns-2 c = yes-iff (three-kinds .0 (inr (inl (c .before .above .ensures .0 (c .if2 .taken)))))
-
 below-requires : tie.Need-below-requires
 below-requires c κs = search needs
+
+returns-2 : tie.Need-returns-2
+returns-2 c = ((λ e. three-kinds .0 (inr (inl (c .before .above .ensures .0 e)))), λ _. c .if2 .taken)
 
 returns-3 : tie.Need-returns-3
 returns-3 c =
@@ -28,4 +28,4 @@ returns-3 c =
     iff-trans (c .below .ensures) (related-below not-equal not-above)
 
 pub related-spec : {M : Type 1} → statement M
-related-spec = tie.close (tie.spec equal-requires returns above-requires returns-2 below-requires returns-3)
+related-spec = tie.close (tie.spec equal-requires returns above-requires below-requires returns-2 returns-3)
