@@ -71,7 +71,10 @@ static int policy(int samples, const char *name, const uint8_t *image, size_t le
 
 int main(int count, char **words) {
     int samples = count > 1 ? atoi(words[1]) : 0;
-    if (samples < 1 || samples > MOST_SAMPLES) return 2;
+    if (samples < 1 || samples > MOST_SAMPLES) {
+        fprintf(stderr, "samples: 1 to %d\n", MOST_SAMPLES);
+        return 2;
+    }
     puts("| policy | call on a box that is kept (its number) | before, ns | after, ns | ratio |\n|---|---|---|---|---|");
     for (int w = 2; w + 2 < count; w += 3) {
         static uint8_t image[GATE_LONGEST_IMAGE];
