@@ -2,7 +2,7 @@
 use Rattle.std.specs.Prelude.{◌≡◌, refl, List, [], ◌∷◌, ◌++◌, ◌↔◌, ℕ, ◌+◌, ◌<◌, ◌≤◌, length, take, drop}
 use Rattle.std.proofs.Common.{sym, ap, ap₂, ◌∙◌, subst, append_assoc, inl, inr, not-suc-le-zero, arith, length-append, take-append-drop, take-take}
 use Rattle.std.proofs.Math.Decide.{dec_lt, ℕ_discrete}
-use borrow.Author.Rules.{zero≤}
+use Rattle.std.proofs.Common.{zero-le}
 use Rattle.std.proofs.Math.Seq.{take-append-add}
 use Rattle.answer.specs.declared.Answer.{Answer}
 use Rattle.answer.specs.Answers.{Condition, Decides, Granted, Leaves}
@@ -94,5 +94,5 @@ fault-after L M front l goes {k} f = record {
 
 -- a fault at once: something legal there is, but nothing that begins with the next byte, nor is the end legal
 pub fault-here : (M : List ℕ → Type 0) (l : List ℕ) → CanBegin M [] → ((x : ℕ) (r t : List ℕ) → l ≡ x ∷ r → M (x ∷ t) → ⊥) → (l ≡ [] → M [] → ⊥) → FaultAt M l 0
-fault-here M [] b next end = record { within = zero≤; before = b; there = λ h _. absurd (not-suc-le-zero h); at-end = λ _. end refl }
-fault-here M (x ∷ r) b next end = record { within = zero≤; before = b; there = λ _ w. next x r w.0 refl w.1; at-end = λ e. absurd (omega arith) }
+fault-here M [] b next end = record { within = zero-le; before = b; there = λ h _. absurd (not-suc-le-zero h); at-end = λ _. end refl }
+fault-here M (x ∷ r) b next end = record { within = zero-le; before = b; there = λ _ w. next x r w.0 refl w.1; at-end = λ e. absurd (omega arith) }

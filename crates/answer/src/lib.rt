@@ -1,4 +1,6 @@
 // What every call gives back: a number and a place (01, "Numbers given back").
+#![tactic(auto)]
+
 ghost use Rattle.std.specs.Prelude.{◌≡◌, true, ◌↔◌};
 ghost use Rattle.answer.specs.Answers.{Is, Granted};
 
@@ -45,7 +47,7 @@ pub const TEXT_LONG: u8 = 19;
 
 pub const BUFFER_SHORT: u8 = 20;
 
-#[derive(Drop)]
+#[derive(Clone, Copy)]
 pub struct Answer {
     pub number: u8,
     pub place: usize,

@@ -1,4 +1,6 @@
 // The box that callers keep, and what a record does to it: the work by value, for whoever keeps the box.
+#![tactic(auto)]
+
 ghost use Rattle.std.specs.Prelude.{◌≡◌, ◌<◌, ◌≤◌, length, get_or};
 ghost use Rattle.answer.specs.Answers.{Granted};
 ghost use Rattle.policy.specs.Fine.{state_of_parts};
@@ -15,7 +17,7 @@ use tree::Tree;
 
 // The box. It holds numbers alone, so that any memory of its size is a box.
 #[repr(C)]
-#[derive(Drop)]
+#[derive(Clone, Copy)]
 pub struct BoxRecord {
     pub state: State,
 }
@@ -29,7 +31,7 @@ const PRINT: u8 = 0x10;
 const NO_RECORD: u64 = 255;
 
 // What a load gives: the answer as one number, and the box after it.
-#[derive(Drop)]
+#[derive(Clone, Copy)]
 pub struct BoxLoaded {
     pub answer: u64,
     pub after: BoxRecord,
@@ -37,7 +39,7 @@ pub struct BoxLoaded {
 
 // What a record comes to. Of a load, that it is one, and no more. Of any other, the answer as one number; all of the box that it may alter, as it
 // is after the call: the slots, and a file with its number; and how many bytes it gave out.
-#[derive(Drop)]
+#[derive(Clone, Copy)]
 pub struct BoxServed {
     pub loads: bool,
     pub answer: u64,

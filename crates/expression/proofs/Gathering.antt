@@ -5,7 +5,7 @@ use mathlib.Core.List.{List, [], ◌∷◌, ◌++◌, append_assoc, append-nil}
 use mathlib.Core.Logic.{◌⊎◌, inl, inr, ⊎_elim, ◌↔◌}
 use Prim.Native.Nat.{ℕ, ◌+◌, ◌-◌, ◌<◌, ◌≤◌}
 use native.Mathlib.Omega.{arith}
-use borrow.Author.Rules.{zero≤}
+use Rattle.std.proofs.Common.{zero-le}
 use lib.ListN.{length, get_or, drop, length-drop, length-append}
 use lib.Seq.{drop-drop, drop-append_seam}
 use Rattle.securon.specs.Sets.{Set, empty, ◌≐◌, marked}
@@ -40,7 +40,7 @@ module _ (t : Tree) (bs : List ℕ) where
   gathered-start d r (inl e) none = record {
     depth = d;
     due = [];
-    within = zero≤;
+    within = zero-le;
     fit = tt;
     follows = e;
     are = λ u. ((λ w. absurd (bytes-some w.0 (sym w.1 ∙ e))), ⊎_elim (λ m. absurd ((none u).0 m)) (λ w. absurd w));
@@ -48,7 +48,7 @@ module _ (t : Tree) (bs : List ℕ) where
   gathered-start d r (inr (x, ok, e)) none = record {
     depth = d;
     due = x ∷ [];
-    within = zero≤;
+    within = zero-le;
     fit = (ok, tt);
     follows = e ∙ sym (append-nil (bytes x));
     are = λ u. (

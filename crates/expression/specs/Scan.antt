@@ -1,7 +1,7 @@
 -- What may still follow while the bytes of an expression are met from the front: so many whole expressions. Assumes nothing.
 use Rattle.std.specs.Prelude.{◌≡◌, refl, List, [], ◌∷◌, ◌++◌, ◌↔◌, ℕ, zero, suc, ◌+◌, ◌-◌, ◌<◌, ◌≤◌, length, take, drop}
 use Rattle.std.proofs.Common.{sym, ap, ◌∙◌, subst, append_assoc, append-nil, inr, ⊎_elim, le_refl, arith, length-drop, take_all}
-use borrow.Author.Rules.{zero≤}
+use Rattle.std.proofs.Common.{zero-le}
 use Rattle.answer.specs.Faults.{CanBegin, FaultAt}
 use Rattle.answer.specs.Laws.{fault-after, fault-here}
 use Rattle.logic.specs.Iff.{iff-trans}
@@ -200,13 +200,13 @@ module _ (kind : Kind) (n d : ℕ) where
     pub fault-securon : (k : ℕ) (l : List ℕ) → ((s : ℕ) (r : List ℕ) → l ≡ s ∷ r → s < n → ⊥) → FaultAt (Rest (suc k)) (2 ∷ l) 1
     fault-securon k l bad = fault-after (Rest (suc k)) (AfterRange k) (2 ∷ []) l (rest-range k)
         (fault-here (AfterRange k) l
-        (let f = fill some k in (0 ∷ 0 ∷ 0 ∷ f.0, (some, (zero≤, ((zero≤, zero≤), f.1)))))
+        (let f = fill some k in (0 ∷ 0 ∷ 0 ∷ f.0, (some, (zero-le, ((zero-le, zero-le), f.1)))))
         (λ x r t e w. bad x r e w.0) (λ e w. w))
 
     pub fault-from : (k s : ℕ) (l : List ℕ) → s < n → ((i : ℕ) (r : List ℕ) → l ≡ i ∷ r → i ≤ d → ⊥) → FaultAt (Rest (suc k)) (2 ∷ s ∷ l) 2
     fault-from k s l h bad = fault-after (Rest (suc k)) (AfterSecuron k) (2 ∷ s ∷ []) l
         (λ r. iff-trans (rest-range k (s ∷ r)) ((λ w. w.1), λ w. (h, w)))
-        (fault-here (AfterSecuron k) l (let f = fill some k in (0 ∷ 0 ∷ f.0, (zero≤, ((zero≤, zero≤), f.1)))) (λ x r t e w. bad x r e w.0) (λ e w. w))
+        (fault-here (AfterSecuron k) l (let f = fill some k in (0 ∷ 0 ∷ f.0, (zero-le, ((zero-le, zero-le), f.1)))) (λ x r t e w. bad x r e w.0) (λ e w. w))
 
     pub fault-to : (k s i : ℕ) (l : List ℕ) → s < n → i ≤ d → ((j : ℕ) (r : List ℕ) → l ≡ j ∷ r → i ≤ j → j ≤ d → ⊥) → FaultAt (Rest (suc k)) (2 ∷ s ∷ i ∷ l) 3
     fault-to k s i l h g bad = fault-after (Rest (suc k)) (AfterFrom k i) (2 ∷ s ∷ i ∷ []) l

@@ -1,4 +1,6 @@
 // What expressions in bytes mean (01, "Expressions and what they mean").
+#![tactic(auto)]
+
 ghost use Rattle.std.specs.Prelude.{◌≡◌, true, ◌&&◌, ◌||◌, ◌↔◌, ℕ, ◌<◌, ◌≤◌};
 ghost use Rattle.securon.specs.Sets.{◌∪◌, ◌≐◌, marked};
 ghost use Rattle.tree.specs.Tree.{Related, Climbs, Ready};
@@ -28,14 +30,14 @@ const EMPTY_T1_MET: bool = true;
 const EMPTY_T2_MET: bool = false;
 
 // A privilege expression has no OR; a protection expression may have it.
-#[derive(Drop)]
+#[derive(Clone, Copy)]
 pub enum Kind {
     Privilege,
     Protection,
 }
 
 // What a test of the expression at the front says: whether it is met, and how many bytes it has.
-#[derive(Drop)]
+#[derive(Clone, Copy)]
 struct Tested {
     met: bool,
     used: usize,

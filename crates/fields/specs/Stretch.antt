@@ -49,7 +49,7 @@ module _ (m : ℕ) (J : Judging m) (refusal : Refusal) where
 
       go : Dec (length bs < m) → Front Takes bs ⊎ Blamed Faults bs
       go (yes h) = some h (J.so_far bs h)
-      go (no h) = let e = length-take-le m bs (omega arith) in full e (J.All-there (take m bs) e)
+      go (no h) = let e = length-take-le m bs (omega arith) in full e (J.all_there (take m bs) e)
 
   pub stretch-settled : (bs r : List ℕ) (n k : ℕ) → Faults bs n k → Early bs n k ⊎ Faults (bs ++ r) n k
   stretch-settled bs r n k (inr (_, _, e)) = inl e

@@ -1,4 +1,6 @@
 // Formats: specs/ has the notion, its laws, and what a reader of one tells; here are the readers that every format needs.
+#![tactic(auto)]
+
 ghost use Rattle.std.specs.Prelude.{◌≡◌, ◌<◌, ◌≤◌, length};
 ghost use Rattle.fields.specs.Parts.{byte, word, low_first};
 ghost use Rattle.fields.specs.Reading.{NumberRead, Ends};
@@ -6,14 +8,14 @@ ghost use Rattle.fields.specs.Reading.{NumberRead, Ends};
 use answer::{Answer, DONE, ENDS_EARLY, LEFT_OVER};
 
 // What comes of a format that is read from a place on: it is taken, and the next begins at a place; or it is refused, with a number and a place.
-#[derive(Drop)]
+#[derive(Clone, Copy)]
 pub enum Met {
     Read(usize),
     Refused(u8, usize),
 }
 
 // What comes of a number, and its value.
-#[derive(Drop)]
+#[derive(Clone, Copy)]
 pub struct NumberMet {
     pub met: Met,
     pub value: usize,

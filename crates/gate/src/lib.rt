@@ -1,4 +1,6 @@
 // The gate: the requests begin, end, ask, change, bypass (01, "Requests", "Order").
+#![tactic(auto)]
+
 ghost use Rattle.std.specs.Prelude.{◌≡◌, ◌<◌, ◌≤◌, length, set};
 ghost use Rattle.answer.specs.Answers.{Granted, DecidesAt};
 ghost use Rattle.expression.specs.Bytes.{longest};
@@ -15,7 +17,7 @@ use policy::{Examined, File, State};
 
 // What a request comes to: the answer, and all of the state that it may alter, as it is after the request: the slots, and a file with its
 // number. For a caller whose state lives in a variable: it stores both there, and no state is copied.
-#[derive(Drop)]
+#[derive(Clone, Copy)]
 pub struct Effect {
     pub answer: Answer,
     pub slots: [u16; policy::SLOTS],

@@ -1,5 +1,7 @@
 // The box for programs in other languages: calls on a record that its caller keeps, altered where it stands. A crate of its own, so that each request has one
 // caller in what is compiled together: then the compiler joins them, and the state is not copied on its way.
+#![tactic(auto)]
+
 ghost use Rattle.std.specs.Prelude.{◌≡◌};
 ghost use Rattle.door.specs.Box.{fresh_box, Refills, Serves};
 

@@ -1,7 +1,7 @@
 -- Worked examples of 01: the smallest image loads the fresh state; one byte less is 3 at 7; one zero more is 7 at 8. Assumes nothing.
 use Rattle.std.specs.Prelude.{◌≡◌, refl, List, [], ◌∷◌, ℕ}
 use Rattle.std.proofs.Common.{arith}
-use borrow.Author.Rules.{zero≤}
+use Rattle.std.proofs.Common.{zero-le}
 use Rattle.tree.specs.Depth.{depth_of}
 use Rattle.policy.specs.State.{most_roles, most_files, fresh_state}
 use Rattle.fields.specs.Format.{Format}
@@ -25,7 +25,7 @@ nobody = record { tree = tree_of []; roles = []; files = [] }
 -- no role, no file: a count of 0
 none-counted : (most : ℕ) (F : Format Expressions) → (counted most F).Takes (0 ∷ []) []
 unfolding counted
-none-counted most F = (0 ∷ [], [], 0, refl, takes-byte (between 0 most) no_count 0 (zero≤, zero≤), (refl, refl))
+none-counted most F = (0 ∷ [], [], 0, refl, takes-byte (between 0 most) no_count 0 (zero-le, zero-le), (refl, refl))
 
 pub smallest-head : (head 1).Takes (83 ∷ 80 ∷ 84 ∷ 1 ∷ 0 ∷ []) 1
 unfolding head

@@ -4,7 +4,7 @@ use Rattle.std.proofs.Math.Path.{refl, sym, subst}
 use mathlib.Core.List.{List, [], ◌∷◌, ◌++◌, append-nil}
 use Prim.Native.Nat.{ℕ, zero, suc, ◌+◌, ◌-◌, ◌<◌, ◌≤◌}
 use native.Mathlib.Omega.{arith}
-use borrow.Author.Rules.{zero≤}
+use Rattle.std.proofs.Common.{zero-le}
 use Rattle.tree.specs.Depth.{depth_of}
 use Rattle.expression.specs.declared.Kind.{Kind}
 use Rattle.expression.specs.declared.Kind.TheVariants.{Privilege}
@@ -33,7 +33,7 @@ times-takes (suc k) F piece value all =
 expression-takes : (kind : Kind) (parents d : ℕ) (x : List ℕ) → InOrder kind (suc parents) d x → (expression kind parents d).Takes (expression_bytes x) x
 unfolding expression
 expression-takes kind parents d x o =
-    (length x ∷ [], x, length x, refl, takes-byte (between 0 longest) no_expression (length x) (zero≤, o.0), (refl, o.1, refl))
+    (length x ∷ [], x, length x, refl, takes-byte (between 0 longest) no_expression (length x) (zero-le, o.0), (refl, o.1, refl))
 
 -- the expressions of a role or a file, place after place: part k stands at place k
 abbrev pub shelf_bytes : ℕ → (ℕ → List ℕ) → List ℕ
@@ -53,7 +53,7 @@ counted-takes : {A : Type 0} (most : ℕ) (F : Format A) (count : ℕ) (piece : 
     → ((i : ℕ) → i < count → F.Takes (piece i) (value i)) → (counted most F).Takes (count ∷ each count piece) (values count value)
 unfolding counted
 counted-takes most F count piece value few all =
-    (count ∷ [], each count piece, count, refl, takes-byte (between 0 most) no_count count (zero≤, few), times-takes count (λ i. F) piece value all)
+    (count ∷ [], each count piece, count, refl, takes-byte (between 0 most) no_count count (zero-le, few), times-takes count (λ i. F) piece value all)
 
 -- a policy as it is written: how many securons there are besides the root, with their parents; how many roles and files, with their parts by place
 pub record Draft : Type 0 where

@@ -1,4 +1,6 @@
 // Loading a policy image (01, "Image", "Requests": load): each reader tells what comes of its format (specs/Image), the whole in one pass.
+#![tactic(auto)]
+
 ghost use Rattle.std.specs.Prelude.{◌+◌, ◌*◌, ◌-◌, ◌<◌, ◌≤◌, length};
 ghost use Rattle.tree.specs.Tree.{InRange};
 ghost use Rattle.expression.specs.Bytes.{longest};
@@ -37,44 +39,44 @@ const LATEST: usize = 1;
 const MOST_IN_VERSION_1: usize = 64;
 
 // What a load gives back, and the state after it.
-#[derive(Drop)]
+#[derive(Clone, Copy)]
 pub struct Loaded {
     pub answer: Answer,
     pub state: State,
 }
 
 // What comes of a format, and what is made of its value.
-#[derive(Drop)]
+#[derive(Clone, Copy)]
 struct TreeMet {
     met: Met,
     tree: Tree,
 }
 
-#[derive(Drop)]
+#[derive(Clone, Copy)]
 struct RoleMet {
     met: Met,
     role: Role,
 }
 
-#[derive(Drop)]
+#[derive(Clone, Copy)]
 struct FileMet {
     met: Met,
     file: File,
 }
 
-#[derive(Drop)]
+#[derive(Clone, Copy)]
 struct RolesMet {
     met: Met,
     roles: [Role; ROLES],
 }
 
-#[derive(Drop)]
+#[derive(Clone, Copy)]
 struct FilesMet {
     met: Met,
     files: [File; FILES],
 }
 
-#[derive(Drop)]
+#[derive(Clone, Copy)]
 struct ImageMet {
     met: Met,
     state: State,

@@ -1,4 +1,6 @@
 // How an answer is printed as a line, and how a line of input is collected.
+#![tactic(auto)]
+
 ghost use Rattle.std.specs.Prelude.{◌≡◌, ◌∷◌, [], ◌≤◌, ◌<◌, ◌+◌, ◌*◌, ◌/◌, ◌%◌, min, length, take};
 ghost use Rattle.io.specs.Digits.{hex_digit_ascii as Digits·glyph};
 ghost use Rattle.lines.specs.Lines.{hexes as Lines·hexes, Fills, Collected};
@@ -15,7 +17,7 @@ pub const PRINTED: usize = 186;
 pub const KEPT: usize = 513;
 
 // How many bytes of the line are kept now, where the input goes on, and whether the line has ended.
-#[derive(Drop)]
+#[derive(Clone, Copy)]
 pub struct Part {
     pub n: usize,
     pub next: usize,

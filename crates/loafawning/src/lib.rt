@@ -1,4 +1,6 @@
 // The gate for programs in other languages: whole inputs and texts, under plain names. (Calls on a box that is kept: crate gatebox.)
+#![tactic(auto)]
+
 ghost use Rattle.std.specs.Prelude.{◌≤◌, ◌<◌, ◌≡◌};
 ghost use Rattle.script.specs.Script.{Replays};
 ghost use Rattle.door.specs.Box.{packed};

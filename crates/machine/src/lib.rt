@@ -1,4 +1,6 @@
 // The machine as one function: any request, by its code, on a state (01, "Requests").
+#![tactic(auto)]
+
 ghost use Rattle.std.specs.Prelude.{◌≡◌, ◌<◌};
 ghost use Rattle.policy.specs.State.{most_files};
 ghost use Rattle.policy.specs.Seen.{Seen, Of};
@@ -22,7 +24,7 @@ pub const ASK: u8 = 3;
 pub const CHANGE: u8 = 4;
 
 // What a request gives: the answer, and the state after it.
-#[derive(Drop)]
+#[derive(Clone, Copy)]
 pub struct Served {
     pub answer: Answer,
     pub state: State,

@@ -6,7 +6,7 @@ use mathlib.Core.Bool.{Bool, true, false}
 use Prim.Native.Nat.{ℕ, suc, ◌+◌, ◌-◌, ◌<◌, ◌≤◌}
 use native.Mathlib.Nat.{add-zero, le_refl}
 use native.Mathlib.Omega.{arith}
-use borrow.Author.Rules.{zero≤}
+use Rattle.std.proofs.Common.{zero-le}
 use lib.ListN.{length, get_or, take, drop, take-append-drop, length-drop}
 use lib.Seq.{take-add, take_all, length-take-le, drop-length}
 use Rattle.answer.specs.Faults.{FaultAt}
@@ -31,7 +31,7 @@ module _ (kind : Kind) (n d : ℕ) where
     pub goes : (r : List ℕ) → Written kind n d (take at bs ++ r) ↔ Rest kind n d k r
 
   pub at-start : (bs : List ℕ) → At bs 1 0
-  at-start bs = record { within = zero≤; few = omega arith; goes = written-rest kind n d }
+  at-start bs = record { within = zero-le; few = omega arith; goes = written-rest kind n d }
 
   module _ {bs : List ℕ} {k at : ℕ} (a : At bs k at) where
     -- g bytes further on, m expressions are to follow

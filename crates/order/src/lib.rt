@@ -1,4 +1,6 @@
 // Whether the bytes of an expression are in order, and where their first fault is (01, "In bytes, prefix order", "Place for 6").
+#![tactic(auto)]
+
 ghost use Rattle.std.specs.Prelude.{◌≡◌, true, false, [], ◌∷◌, ◌⊎◌, ◌↔◌, ℕ, ◌<◌, ◌≤◌, length, get_or};
 ghost use Rattle.answer.specs.Answers.{Decides};
 ghost use Rattle.securon.specs.Sets.{marked};
@@ -18,7 +20,7 @@ use tree::{Levels, Tree};
 const SECOND: usize = 256;
 
 // What a scan finds: the bytes are right; they are right so far, but not whole; or the first byte that can't stand.
-#[derive(Drop)]
+#[derive(Clone, Copy)]
 pub enum Scanned {
     Whole,
     Short,
@@ -26,21 +28,21 @@ pub enum Scanned {
 }
 
 // What the check of an expression says: in order, or the place of its fault.
-#[derive(Drop)]
+#[derive(Clone, Copy)]
 pub enum Checked {
     Fine,
     Wrong(usize),
 }
 
 // The mutable parts of a row: they differ in what length 0 means.
-#[derive(Drop)]
+#[derive(Clone, Copy)]
 pub enum Mutable {
     T1,
     T2,
 }
 
 // What is said of the bytes of a protection: met, not met, or the place of their fault.
-#[derive(Drop)]
+#[derive(Clone, Copy)]
 pub enum Judged {
     Met,
     NotMet,
@@ -48,14 +50,14 @@ pub enum Judged {
 }
 
 // What is said of the bytes of a privilege: its SET where they are in order, else no securon.
-#[derive(Drop)]
+#[derive(Clone, Copy)]
 pub struct Named {
     pub checked: Checked,
     pub set: SecuronSet,
 }
 
 // How far a term stands: whole, and its number of bytes; or the number of bytes before the first that can't stand.
-#[derive(Drop)]
+#[derive(Clone, Copy)]
 struct Part {
     whole: bool,
     good: usize,

@@ -1,5 +1,7 @@
 // A box that lives as long as its input: records from standard input; per record a line with the number, the place and the bytes given out. `refill` and the
 // functions after it read and write; all else stands in the functions before it, over slices.
+#![tactic(auto)]
+
 ghost use Rattle.std.specs.Prelude.{◌≡◌, ◌≤◌, ◌+◌, ◌*◌, length, take};
 ghost use Rattle.lines.specs.Lines.{Fills};
 ghost use Rattle.parkbox.specs.Windows.{line_lent, unbegun, ParkedIs};
@@ -20,7 +22,7 @@ const GIVEN: usize = 512;
 const LINE: usize = 42 + 3 * GIVEN;
 
 // How far a run came: the box; of its last window, how many bytes were used, how many were printed, and whether the run goes on.
-#[derive(Drop)]
+#[derive(Clone, Copy)]
 struct Parked {
     after: BoxRecord,
     used: usize,

@@ -1,4 +1,6 @@
 // The state: the tree, roles, files and slots; the fresh state; its examination; stores (01, "Rows, roles and the test", "Requests").
+#![tactic(auto)]
+
 ghost use Rattle.std.specs.Prelude.{◌≡◌, true, false, ◌↔◌, ◌+◌, ◌<◌, ◌≤◌, length};
 ghost use Rattle.expression.specs.Bytes.{longest};
 ghost use Rattle.tree.specs.Tree.{IsTree};
@@ -67,14 +69,14 @@ pub const FILE_BYTES: usize = LONGEST * FILE_PLACES;
 
 // A role and a file are shelves of expressions (crate shelf).
 #[repr(C)]
-#[derive(Drop)]
+#[derive(Clone, Copy)]
 pub struct Role {
     pub lens: [u8; ROLE_PLACES],
     pub bytes: [u8; ROLE_BYTES],
 }
 
 #[repr(C)]
-#[derive(Drop)]
+#[derive(Clone, Copy)]
 pub struct File {
     pub lens: [u8; FILE_PLACES],
     pub bytes: [u8; FILE_BYTES],
@@ -84,7 +86,7 @@ pub struct File {
 pub const FREE: u16 = 0;
 
 #[repr(C)]
-#[derive(Drop)]
+#[derive(Clone, Copy)]
 pub struct State {
     pub tree: Tree,
     pub nroles: usize,
@@ -96,7 +98,7 @@ pub struct State {
 
 // What the examination of a state finds: whether it is well formed, and if so the levels of its tree. With it all that a request needs of the state,
 // so that the state is gone through once: the tree, the counts, the slots, the role that a slot holds, and a file with its number.
-#[derive(Drop)]
+#[derive(Clone, Copy)]
 pub struct Examined {
     pub ok: bool,
     pub tree: Tree,
@@ -110,7 +112,7 @@ pub struct Examined {
 }
 
 // What the test of the tree finds; n is the number of its securons, and 1 of what is no tree.
-#[derive(Drop)]
+#[derive(Clone, Copy)]
 struct Grown {
     ok: bool,
     n: usize,

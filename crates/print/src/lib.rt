@@ -1,4 +1,6 @@
 // An expression printed back as text (02, [1]).
+#![tactic(auto)]
+
 ghost use Rattle.std.specs.Prelude.{◌≡◌, [], ◌∷◌, ◌<◌, length};
 ghost use Rattle.answer.specs.Answers.{Decides, DecidesAt, Leaves};
 ghost use Rattle.tree.specs.Tree.{Ready};
@@ -20,7 +22,7 @@ use writing::put;
 const ROOM: usize = 512;
 
 // How far a print came: how many bytes of the expression it used, and the place after it in the output.
-#[derive(Drop)]
+#[derive(Clone, Copy)]
 struct Printing {
     used: usize,
     to: usize,

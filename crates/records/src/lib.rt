@@ -1,4 +1,6 @@
 // The records of a box: which bytes are one, and where its fields stand. A record is a code, and then fields by the shapes of its code.
+#![tactic(auto)]
+
 ghost use Rattle.std.specs.Prelude.{◌≡◌, true, ◌<◌, ◌≤◌, [], ◌∷◌, length, get_or};
 ghost use Rattle.records.specs.Records.{most_fields, lead, size, nothing, PartedIs, AloneIs};
 ghost use Rattle.records.specs.Walk.{shape_of, shapes_in, ShapesAre, FieldIs, WalkIs};
@@ -16,14 +18,14 @@ const LONG: u8 = 3;
 const QUAD: u8 = 4;
 
 // Where a field stands: from a place, up to another.
-#[derive(Drop)]
+#[derive(Clone, Copy)]
 pub struct Span {
     pub from: usize,
     pub to: usize,
 }
 
 // Whether a whole record of the table stands at the front; its code, where each of its fields stands, and where it ends. What is not there is 0.
-#[derive(Drop)]
+#[derive(Clone, Copy)]
 pub struct Parted {
     pub whole: bool,
     pub code: u8,
@@ -32,7 +34,7 @@ pub struct Parted {
 }
 
 // The shapes of a record's fields: the first n.
-#[derive(Drop)]
+#[derive(Clone, Copy)]
 struct Shapes {
     known: bool,
     n: usize,
@@ -40,7 +42,7 @@ struct Shapes {
 }
 
 // Where a field stands, if all of it is there.
-#[derive(Drop)]
+#[derive(Clone, Copy)]
 struct FieldMet {
     whole: bool,
     span: Span,

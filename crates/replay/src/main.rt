@@ -1,4 +1,6 @@
 // The replay program (01): an image and records from standard input; per call a line with the number and the place.
+#![tactic(auto)]
+
 ghost use Rattle.std.specs.Prelude.{◌≤◌, length};
 
 use libc::{STDERR_FILENO, STDIN_FILENO, STDOUT_FILENO};

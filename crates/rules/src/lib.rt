@@ -1,5 +1,7 @@
 // The rules: whether a role passes a row, whether its mediating sets fit, and whether its bypass
 // set has what a store needs (01, "Rows, roles and the test", "Requests"; 02, [2]).
+#![tactic(auto)]
+
 ghost use Rattle.std.specs.Prelude.{◌≡◌, true, ◌↔◌, ◌<◌};
 ghost use Rattle.securon.specs.Sets.{◌≐◌, ◌⊆◌, marked};
 ghost use Rattle.expression.specs.Bytes.{SET, MeetsT1, MeetsT2};

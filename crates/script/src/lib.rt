@@ -1,4 +1,6 @@
 // A replay input, record by record, to lines of output (01, "The replay program").
+#![tactic(auto)]
+
 ghost use Rattle.std.specs.Prelude.{◌≡◌, true, false, [], ◌∷◌, ◌+◌, ◌<◌, ◌≤◌, min, length, get_or, drop};
 ghost use Rattle.gate.specs.Effects.{Tells};
 ghost use Rattle.machine.specs.Machine.{Step};
@@ -35,7 +37,7 @@ const LINE: usize = lines::PRINTED;
 pub const WINDOW: usize = 131072;
 
 // What stands next in the input: nothing; a broken-off or unknown record; or a whole record of so many bytes.
-#[derive(Drop)]
+#[derive(Clone, Copy)]
 pub enum Next {
     Ended,
     Cut,
@@ -43,14 +45,14 @@ pub enum Next {
 }
 
 // What came of the next record: what its call gave back, where it is whole.
-#[derive(Drop)]
+#[derive(Clone, Copy)]
 pub struct Played {
     pub next: Next,
     pub effect: Effect,
 }
 
 // What was printed of a record: how full the output is, how many bytes the record has, and whether the run goes on.
-#[derive(Drop)]
+#[derive(Clone, Copy)]
 struct Told {
     n: usize,
     used: usize,
@@ -58,7 +60,7 @@ struct Told {
 }
 
 // Where the two expressions of a record 04 or 05 stand, if they are all there: the place of the second length byte, and the end.
-#[derive(Drop)]
+#[derive(Clone, Copy)]
 struct Bounds {
     whole: bool,
     mid: usize,
@@ -66,7 +68,7 @@ struct Bounds {
 }
 
 // Where the image of an input ends, as far as it is there, and whether all of it is.
-#[derive(Drop)]
+#[derive(Clone, Copy)]
 struct Extent {
     end: usize,
     whole: bool,
@@ -74,7 +76,7 @@ struct Extent {
 
 // How far a replay came: whether its image was loaded, and the state; of its last window, how many bytes were used, how many
 // were printed, and whether the run goes on.
-#[derive(Drop)]
+#[derive(Clone, Copy)]
 pub struct Windowed {
     pub loaded: bool,
     pub state: State,

@@ -1,4 +1,6 @@
 // Securons, levels, and sets of securons (01, "The tree"; 002, 2.1).
+#![tactic(auto)]
+
 ghost use Rattle.std.specs.Prelude.{◌≡◌, true, ◌↔◌, ◌+◌, ◌<◌};
 ghost use Rattle.securon.specs.Sets.{set_room, empty, only, ◌∪◌, ◌⊆◌, ◌≐◌, Apart, marked};
 
@@ -6,11 +8,11 @@ ghost use Rattle.securon.specs.Sets.{set_room, empty, only, ◌∪◌, ◌⊆◌
 pub const ROOM: usize = 64;
 
 // A securon, by its number.
-#[derive(Drop)]
+#[derive(Clone, Copy)]
 pub struct Securon(pub u8);
 
 // A level, d(s) in 002: kept apart from securons, so that neither is taken for the other.
-#[derive(Drop)]
+#[derive(Clone, Copy)]
 pub struct Level(pub u8);
 
 impl Securon {
@@ -35,7 +37,7 @@ impl Level {
 }
 
 // A set of securons: a mark for each that is in it.
-#[derive(Drop)]
+#[derive(Clone, Copy)]
 pub struct SecuronSet {
     pub has: [bool; ROOM],
 }

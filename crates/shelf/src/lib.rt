@@ -1,4 +1,6 @@
 // A shelf of expressions: place k has its length in `lens[k]`, and room for its bytes from 48 k on. Roles and files are such shelves.
+#![tactic(auto)]
+
 ghost use Rattle.std.specs.Prelude.{◌≡◌, true, ◌↔◌, ◌+◌, ◌*◌, ◌<◌, ◌≤◌, length, get_or};
 ghost use Rattle.expression.specs.Bytes.{longest};
 ghost use Rattle.shelf.specs.Shelf.{stored_at, put_bytes, PutAt, AllZero, ZeroShelf};

@@ -1,4 +1,6 @@
 // Text turned into bytes (01, "In text").
+#![tactic(auto)]
+
 ghost use Rattle.std.specs.Prelude.{◌≡◌, true, false, ◌≤◌, ◌<◌, ◌+◌, ◌++◌, length, take, drop};
 ghost use Rattle.answer.specs.Answers.{Decides, Leaves};
 ghost use Rattle.text.specs.Turn.{text_conditions, text_grants, text_makes};
@@ -25,7 +27,7 @@ const OVER: usize = 49;
 const BELOW: usize = 100;
 
 // How far a text is read. ok: up to `at`, with `made` bytes made, and those bytes while they fit. Not ok: at fault at `at`.
-#[derive(Drop)]
+#[derive(Clone, Copy)]
 struct Reading {
     ok: bool,
     at: usize,
@@ -34,7 +36,7 @@ struct Reading {
 }
 
 // A number and the place after its digits.
-#[derive(Drop)]
+#[derive(Clone, Copy)]
 struct Count {
     n: u8,
     at: usize,

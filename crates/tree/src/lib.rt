@@ -1,4 +1,6 @@
 // The tree of securons (01, "The tree").
+#![tactic(auto)]
+
 ghost use Rattle.std.specs.Prelude.{◌≡◌, true, ◌↔◌};
 ghost use Rattle.tree.specs.Tree.{Reaches, Related, Equal, Above, Below, Climbs, IsTree, LevelsOf};
 
@@ -9,21 +11,21 @@ pub const MOST: usize = 64;
 
 // n securons; of each the parent's number.
 #[repr(C)]
-#[derive(Drop)]
+#[derive(Clone, Copy)]
 pub struct Tree {
     pub n: usize,
     pub parent: [u8; ROOM],
 }
 
 // The level of each securon, and the depth.
-#[derive(Drop)]
+#[derive(Clone, Copy)]
 pub struct Levels {
     pub of: [Level; ROOM],
     pub depth: Level,
 }
 
 // How a walk up parents ends: at the securon looked for; at the root; or past the one looked for, at a smaller number.
-#[derive(Drop)]
+#[derive(Clone, Copy)]
 enum Walk {
     Found,
     Root,

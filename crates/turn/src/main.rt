@@ -1,11 +1,13 @@
 // Each line of standard input is a text: its answer is printed, and the bytes that it makes. `write_block` and the functions after it read and write; all
 // else stands in the functions before it, over slices.
+#![tactic(auto)]
+
 ghost use Rattle.std.specs.Prelude.{◌≡◌, ◌≤◌, ◌<◌, length};
 ghost use Rattle.lines.specs.Lines.{most};
 ghost use Rattle.turn.specs.Printed.{PrintsAnswer, most_printed, AnswersFront, AnswersPiece, AnswersLast, made_by};
 
 // How many bytes of a piece of the input were answered, how many are kept of the line begun then, and how many were printed.
-#[derive(Drop)]
+#[derive(Clone, Copy)]
 struct Answered {
     used: usize,
     n: usize,
@@ -13,7 +15,7 @@ struct Answered {
 }
 
 // Which bytes were read and are still to be answered: none at the end of the input.
-#[derive(Drop)]
+#[derive(Clone, Copy)]
 struct Piece {
     from: usize,
     to: usize,

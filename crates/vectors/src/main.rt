@@ -1,5 +1,7 @@
 // Cases by hand, run and compared: standard input has the calls, a line each, and what is written must be crates/vectors/stdout,
 // which was made from the papers and not by this program.
+#![tactic(auto)]
+
 mod calls;
 mod cases;
 mod expressions;

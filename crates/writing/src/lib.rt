@@ -1,4 +1,6 @@
 // Bytes written into an output, one after another.
+#![tactic(auto)]
+
 ghost use Rattle.std.specs.Prelude.{◌<◌, [], ◌∷◌, length};
 ghost use Rattle.writing.specs.Writing.{WrittenAt};
 

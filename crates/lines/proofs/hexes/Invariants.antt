@@ -1,0 +1,13 @@
+-- `hexes` meets its contract: what was passed is written. The measure is what is left. Assumes nothing.
+use mathlib.Core.Path.{◌≡◌}
+use Prim.Native.Nat.{◌-◌, ◌≤◌}
+use lib.ListN.{take}
+use Rattle.lines.specs.Lines.{hexes}
+use Rattle.writing.specs.Writing.{WrittenAt}
+use Rattle.lines.proofs.hexes.Given as goal
+
+abbrev pub invariant-loop-i : goal.invariant-loop-i
+invariant-loop-i l = (l.i ≤ l.n) × WrittenAt l.initial.out l.at (hexes (take l.i l.b)) l.out l.p
+
+abbrev pub decreases-loop-i : goal.decreases-loop-i
+decreases-loop-i l = l.n - l.i

@@ -1,0 +1,9 @@
+-- `policy::slot_is` meets its contract: the slot's number is compared with the count. Assumes nothing.
+use Rattle.logic.specs.Iff.{iff-trans, most-iff}
+use Rattle.policy.proofs.Slots.{slot-within}
+use Rattle.policy.proofs.slot_is.Goals as goal
+
+pub returns : goal.returns
+returns c =
+    let a = c.args in
+    (iff-trans (most-iff a.slot a.count) (slot-within a.count a.slot))
