@@ -12,7 +12,7 @@ pub record CutAt {S Q : Type 0} (step : Stepping S Q) (s : S) (xs : List (Event 
 module _ {S Q : Type 0} {step : Stepping S Q} where
   pub cut_at : {s t : S} (xs : List (Event S Q)) (e : Event S Q) (ys : List (Event S Q)) → Run step s (xs ++ (e ∷ ys)) t → CutAt step s xs e ys t
   cut_at [] e ys (next {m = m} st r) = record { first = none; after = m; steps = st; onward = r }
-  cut_at {s = x.before} {t = t} (x ∷ xs) e ys (next {m = m} st r) =
+  cut_at {t = t} (_ ∷ xs) e ys (next {m = m} st r) =
       let w = cut_at {s = m} xs e ys r in record { first = next st w.first; after = w.after; steps = w.steps; onward = w.onward }
 
   pub run-joined : {s m t : S} {xs ys : List (Event S Q)} → Run step s xs m → Run step m ys t → Run step s (xs ++ ys) t

@@ -41,7 +41,7 @@ loop-k-preserved c = (
   below_more _ _ c.loop-k.invariant.1
       (⊎_elim
       (λ w b m. not-then-false (iff-trans w.4.ensures (between-iff c.requires.0 _ _ _ _ (omega arith))) w.5.false b)
-      (λ w b m. false≢true (sym w.false ∙ m))
+      (λ w b m. false≢true (sym w.left ∙ m))
       c.if-held-k.branch),
 )
 

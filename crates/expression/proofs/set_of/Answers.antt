@@ -8,7 +8,7 @@ use lib.ListN.{length}
 use Rattle.expression.specs.Scan.{from-length}
 use Rattle.expression.proofs.Gathering.{Gathered, gathered-start, gathered-end, gathered-and, gathered-front, gathered-term}
 use Rattle.expression.proofs.set_of.Goals as goal
-use Rattle.expression.proofs.set_of.Goals.{After-width-at}
+use Rattle.expression.proofs.set_of.Goals.{After-width-at, At-loop-at, Start}
 
 -- a term has some bytes
 wide : {x w : ℕ} → (x ≡ 1 → w ≡ 2) × ((x ≡ 1 → ⊥) → w ≡ 4) → 0 < w
@@ -19,10 +19,10 @@ wide {x} {w} h = go (ℕ_discrete x 1)
     go (no n) = omega (arith, h.1 n)
 
 -- the place that the loop had reached, and the call
-abbrev reached : tie.After-width invariant-loop decreases-loop → tie.At-loop invariant-loop decreases-loop
-reached c = c.before.before.before.before.before.before
+abbrev reached : After-width-at → At-loop-at
+reached c = (goal.at.@NEED@ c).At-loop-at
 
-abbrev called : tie.After-width invariant-loop decreases-loop → tie.Start invariant-loop decreases-loop
+abbrev called : After-width-at → Start
 called c = (reached c).before.before.before
 
 -- a term was added, and the place is past it
@@ -39,7 +39,7 @@ pub bounds-rest-0 : goal.bounds-rest-0
 bounds-rest-0 c = omega (arith, from-length c.args.b.now c.loop-at.at)
 
 pub overflow_add-at : goal.overflow_add-at
-overflow_add-at c = omega (arith, c.well-formed)
+overflow_add-at c = omega (arith, c.well_formed)
 
 pub loop-at-preserved-then-code-eq-AND : goal.loop-at-preserved-then-code-eq-AND
 loop-at-preserved-then-code-eq-AND c = gathered-and _ _ c.loop-at.invariant (omega arith) c.if-code-eq-AND.true
@@ -49,7 +49,7 @@ with_term-r-requires c =
     (c.requires.0, gathered-front _ _ c.loop-at.invariant (omega arith) c.if-code-eq-AND.false)
 
 pub overflow_add-at-else-code-eq-AND : goal.overflow_add-at-else-code-eq-AND
-overflow_add-at-else-code-eq-AND c = omega (arith, (added c).within, (called c).well-formed)
+overflow_add-at-else-code-eq-AND c = omega (arith, (added c).within, (called c).well_formed)
 
 pub loop-at-smaller : goal.loop-at-smaller
 loop-at-smaller c =

@@ -2,7 +2,6 @@
 use mathlib.Core.Path.{refl}
 use mathlib.Core.List.{[], ◌∷◌}
 use mathlib.Core.Logic.{inl, inr}
-use borrow.Author.Tests.{not-true, not-false}
 use Rattle.logic.specs.Iff.{not-then-false}
 use Rattle.answer.specs.Answers.{AllHold}
 use Rattle.policy.specs.declared.State.{State}
@@ -20,7 +19,7 @@ passed : (c : Else-not-granted) (s : State) → let a = c.args in Examines s a.s
 passed c s x =
     let a = c.args in
     let stage = c.row_answer-answer in
-    let granted = c.granted.ensures.0 (not-false _ c.if-not-granted.false) in
+    let granted = c.granted.ensures.0 c.if-not-granted.false in
     shown (row_conditions s a.slot a.file a.mode a.mode) 0 stage.result refl (stage.ensures s x) granted
 
 pub row_answer-answer-requires : goal.row_answer-answer-requires
@@ -30,7 +29,7 @@ pub returns-then-not-granted : goal.returns-then-not-granted
 returns-then-not-granted c = λ s x.
     let a = c.args in
     let stage = c.row_answer-answer in
-    let not-granted = not-then-false c.granted.ensures (not-true _ c.if-not-granted.true) in
+    let not-granted = not-then-false c.granted.ensures c.if-not-granted.true in
     stands (row_conditions s a.slot a.file a.mode a.mode) (mediated s a.slot a.file a.mode ∷ [])
     stage.result (stage.ensures s x) not-granted
 
@@ -46,7 +45,7 @@ returns-then-not-mediates c = λ s x.
     let all = passed (goal.at.returns-then-not-mediates c).Else-not-granted s x in
     let row = row_named s a.slot a.file a.mode a.mode all in
     let test = told x row.session row.present (λ t r f. RoleMediates t r f a.mode) c.mediates.ensures in
-    let fails = not-then-false test (not-true _ c.if-not-mediates.true) in
+    let fails = not-then-false test c.if-not-mediates.true in
     then_next (row_conditions s a.slot a.file a.mode a.mode) (mediated s a.slot a.file a.mode ∷ []) _ all
     (inl (refused fails c.of.ensures))
 
@@ -56,6 +55,6 @@ returns c = λ s x.
     let all = passed (goal.at.returns c).Else-not-granted s x in
     let row = row_named s a.slot a.file a.mode a.mode all in
     let test = told x row.session row.present (λ t r f. RoleMediates t r f a.mode) c.mediates.ensures in
-    let fits = test.0 (not-false _ c.if-not-mediates.false) in
+    let fits = test.0 c.if-not-mediates.false in
     then_next (row_conditions s a.slot a.file a.mode a.mode) (mediated s a.slot a.file a.mode ∷ []) _ all
     (inr (fits, granted-here c.of-2.ensures))

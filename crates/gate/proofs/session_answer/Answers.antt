@@ -3,7 +3,6 @@ use mathlib.Core.Path.{refl, sym, ◌∙◌}
 use mathlib.Core.List.{List, [], ◌∷◌}
 use mathlib.Core.Logic.{inl, inr}
 use native.Mathlib.Omega.{arith}
-use borrow.Author.Tests.{not-true, not-false}
 use Rattle.logic.specs.Iff.{not-then-false}
 use Rattle.answer.specs.Answers.{Condition, AllHold}
 use Rattle.policy.specs.declared.State.{State}
@@ -13,10 +12,10 @@ use Rattle.gate.specs.Requests.{slot_conditions, slot_is_taken}
 use Rattle.gate.specs.Laws.{shown}
 use Rattle.gate.proofs.Stages.{hold-seen, stands, then_next, refused, granted-here}
 use Rattle.gate.proofs.session_answer.Goals as goal
-use Rattle.gate.proofs.session_answer.Goals.{Else-not-granted}
+use Rattle.gate.proofs.session_answer.Goals.{Else-not-granted, Start}
 
 -- the condition after those of every request
-abbrev rest : tie.Start → State → List Condition
+abbrev rest : Start → State → List Condition
 rest c s = slot_is_taken s c.args.slot ∷ []
 
 -- past the first test the stage before has granted, and so its conditions hold
@@ -25,24 +24,24 @@ passed : (c : Else-not-granted) (file : ℕ) (s : State) → let a = c.args in E
 passed c file s x =
     let a = c.args in
     let stage = c.slot_answer-answer in
-    let granted = c.granted.ensures.0 (not-false _ c.if-not-granted.false) in
+    let granted = c.granted.ensures.0 c.if-not-granted.false in
     shown (slot_conditions s a.slot) 0 stage.result refl (stage.ensures.0 file s x) granted
 
 pub returns-then-not-granted : goal.returns-then-not-granted
 returns-then-not-granted c = λ file s x.
     let a = c.args in
     let stage = c.slot_answer-answer in
-    let not-granted = not-then-false c.granted.ensures (not-true _ c.if-not-granted.true) in
+    let not-granted = not-then-false c.granted.ensures c.if-not-granted.true in
     stands (slot_conditions s a.slot) (rest (goal.at.returns-then-not-granted c).Start s) stage.result (stage.ensures.0 file s x) not-granted
 
 pub offset_bounds-slots-at : goal.offset_bounds-slots-at
 offset_bounds-slots-at c =
-    let few = c.slot_answer-answer.ensures.1 (c.granted.ensures.0 (not-false _ c.if-not-granted.false)) in
+    let few = c.slot_answer-answer.ensures.1 (c.granted.ensures.0 c.if-not-granted.false) in
     omega (arith, few)
 
 pub bounds-slots-at : goal.bounds-slots-at
 bounds-slots-at c =
-    let few = c.slot_answer-answer.ensures.1 (c.granted.ensures.0 (not-false _ c.if-not-granted.false)) in
+    let few = c.slot_answer-answer.ensures.1 (c.granted.ensures.0 c.if-not-granted.false) in
     omega (arith, few)
 
 pub returns-then-is_free : goal.returns-then-is_free

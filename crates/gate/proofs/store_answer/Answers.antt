@@ -1,7 +1,6 @@
 -- `gate::store_answer` meets its contract: a refusal of the stage before stands, else the two expressions decide. Assumes nothing.
 use mathlib.Core.Path.{refl}
 use native.Mathlib.Omega.{arith}
-use borrow.Author.Tests.{not-true, not-false}
 use Rattle.logic.specs.Iff.{not-then-false}
 use Rattle.answer.specs.Answers.{AllHold}
 use Rattle.order.specs.Conditions.{expression_conditions}
@@ -21,7 +20,7 @@ passed : (c : Else-not-granted) (s : State) → let a = c.args in Examines s a.s
 passed c s x =
     let a = c.args in
     let stage = c.row_answer-answer in
-    let granted = c.granted.ensures.0 (not-false _ c.if-not-granted.false) in
+    let granted = c.granted.ensures.0 c.if-not-granted.false in
     shown (row_conditions s a.slot a.file a.mode change_protection) 0 stage.result refl (stage.ensures s x) granted
 
 pub row_answer-answer-requires : goal.row_answer-answer-requires
@@ -32,7 +31,7 @@ returns-then-not-granted c = λ s x.
     let a = c.args in
     let stage = c.row_answer-answer in
     let both = expression_conditions a.kind s.tree a.x.now a.y.now in
-    let not-granted = not-then-false c.granted.ensures (not-true _ c.if-not-granted.true) in
+    let not-granted = not-then-false c.granted.ensures c.if-not-granted.true in
     stands (row_conditions s a.slot a.file a.mode change_protection) both stage.result (stage.ensures s x) not-granted
 
 pub both_in_order-requires : goal.both_in_order-requires

@@ -7,7 +7,7 @@ pub overflow_add-result : goal.overflow_add-result
 overflow_add-result c =
     let e = c.in-Fault.is in
     let w = all-fault _ _ _ c.args.m c.requires.0 c.args.image.now c.args.at c.requires.1 e c.scan-found.ensures in
-    omega (arith, w.0, c.requires.1, c.well-formed)
+    omega (arith, w.0, c.requires.1, c.well_formed)
 
 pub returns-in-Whole : goal.returns-in-Whole
 returns-in-Whole c =

@@ -8,7 +8,7 @@ overflow_add-result c =
     let h = c.requires in
     let e = c.in-Fault.is in
     let w = cut-fault _ _ _ c.args.m h.0 c.args.image.now c.args.at h.1 h.2 e c.scan-found.ensures in
-    omega (arith, w.0, c.well-formed)
+    omega (arith, w.0, c.well_formed)
 
 pub returns-in-Whole : goal.returns-in-Whole
 returns-in-Whole c =

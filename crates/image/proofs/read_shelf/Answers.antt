@@ -22,7 +22,7 @@ read_part-met-requires c =
 
 pub overflow_step-k : goal.overflow_step-k
 overflow_step-k c =
-    omega (arith, c.loop-k.invariant.1, c.well-formed)
+    omega (arith, c.loop-k.invariant.1, c.well_formed)
 
 pub loop-k-preserved : goal.loop-k-preserved
 loop-k-preserved c =

@@ -9,9 +9,9 @@ use Rattle.expression.specs.declared.Kind.{Kind}
 use Rattle.order.specs.Heads.{Head}
 use Rattle.order.proofs.Terms.{head-stuck, head-whole, securon-stuck, from-stuck, to-stuck, range-whole}
 use Rattle.order.proofs.range_part.Goals as goal
-use Rattle.order.proofs.range_part.Goals.{Else-over}
+use Rattle.order.proofs.range_part.Goals.{Else-over, Start}
 
-module _ (s : tie.Start) where
+module _ (s : Start) where
   -- byte k of the term, as it was lent
   abbrev byte : ℕ → ℕ
   byte k = get_or s.args.rest.now k 0
@@ -35,8 +35,8 @@ module _ (s : tie.Start) where
     at-to g l b f h kind = head-stuck kind _ _ w g (omega arith) (to-stuck kind _ _ s.pre.0 _ l s.pre.2 b f h)
 
 -- the call that the level i has passed
-abbrev start : tie.Else4 → tie.Start
-start c = c.before.before.before.before.before.before.before.before
+abbrev start : Else-over → Start
+start c = (goal.at.@NEED@ c).Start
 
 from-stands : (c : Else-over) → byte (start c) 2 ≤ (start c).args.depth.0
 from-stands c = let over = not-then-false c.over.ensures c.if-over.false in omega arith

@@ -5,7 +5,6 @@ use mathlib.Core.Bool.{true}
 use mathlib.Core.Logic.{inl, inr, ⊎_elim, ◌↔◌}
 use Prim.Native.Nat.{ℕ, ◌≤◌, ◌-◌}
 use native.Mathlib.Omega.{arith}
-use borrow.Author.Tests.{not-true, not-false}
 use lib.ListN.{length}
 use Rattle.expression.specs.declared.Kind.{Kind}
 use Rattle.logic.specs.Iff.{not-then-false}
@@ -14,14 +13,14 @@ use Rattle.expression.specs.Scan.{nil-of, from, from-length}
 use Rattle.order.specs.Heads.{Head}
 use Rattle.order.proofs.Scanning.{At, at-start, at-operator, at-term, at-stuck, at-over, at-whole, at-short, finds-stopped}
 use Rattle.order.proofs.scan.Goals as goal
-use Rattle.order.proofs.scan.Goals.{After-term_part-part}
+use Rattle.order.proofs.scan.Goals.{After-term_part-part, At-loop-at, Start}
 
 -- the call, and the place that the loop has reached, of a term that was looked at
-abbrev called : tie.After-term-part invariant-loop decreases-loop → tie.Start invariant-loop decreases-loop
-called c = c.before.before.before.before.before.before.before.before.before.before.before
+abbrev called : After-term_part-part → Start
+called c = (goal.at.@NEED@ c).Start
 
-abbrev reached : tie.After-term-part invariant-loop decreases-loop → tie.At-loop invariant-loop decreases-loop
-reached c = c.before.before.before.before.before.before.before
+abbrev reached : After-term_part-part → At-loop-at
+reached c = (goal.at.@NEED@ c).At-loop-at
 
 -- how far that term stands, where no operator does
 module _ (c : After-term_part-part) where
@@ -33,22 +32,22 @@ module _ (c : After-term_part-part) where
 
   stands : (kind : Kind) → ((reached c).before.may-or.result ≡ true) ↔ MayOR kind → Term kind
   stands kind m =
-      let none = not-then-false c.before.before.joins.ensures c.before.if3.false in
-      c.term-part.ensures kind ((λ e. none (inl e)), λ e may. none (inr (e, m.1 may)))
+      let none = not-then-false c.joins.ensures c.if-joins.false in
+      c.term_part-part.ensures kind ((λ e. none (inl e)), λ e may. none (inr (e, m.1 may)))
 
   there : Term (called c).args.kind
   there = stands (called c).args.kind (reached c).before.may-or.ensures
 
-  short : c.term-part.result.good ≤ length (called c).args.b.now - (reached c).loop.at
-  short = subst (λ (x : ℕ). c.term-part.result.good ≤ x) (from-length (called c).args.b.now (reached c).loop.at) there.within
+  short : c.term_part-part.result.good ≤ length (called c).args.b.now - (reached c).loop.at
+  short = subst (λ (x : ℕ). c.term_part-part.result.good ≤ x) (from-length (called c).args.b.now (reached c).loop.at) there.within
 
 -- what is to follow where the loop has come to
-abbrev follows : (l : tie.At-loop invariant-loop decreases-loop) → tie.Start invariant-loop decreases-loop
-follows l = l.before.before.before.before
+abbrev follows : (l : At-loop-at) → Start
+follows l = (goal.at.@NEED@ l).Start
 
-due-at : (l : tie.At-loop invariant-loop decreases-loop)
-    → At (follows l).args.kind (follows l).args.n (follows l).args.depth.0 (follows l).args.b.now l.loop.due l.loop.at
-due-at l = l.loop.invariant (follows l).args.kind l.before.may-or.ensures
+due-at : (l : At-loop-at)
+    → At (follows l).args.kind (follows l).args.n (follows l).args.depth.0 (follows l).args.b.now l.loop-at.due l.loop-at.at
+due-at l = l.loop-at.invariant (follows l).args.kind l.may_or-or.ensures
 
 pub returns-then-b-eq0 : goal.returns-then-b-eq0
 returns-then-b-eq0 c = inl (nil-of _ c.if-b-eq0.true)
@@ -66,11 +65,11 @@ bounds-rest-0 c =
 
 pub overflow_add-due : goal.overflow_add-due
 overflow_add-due c =
-    omega (arith, (due-at (goal.at.overflow_add-due c).At-loop-at).few, (follows (goal.at.overflow_add-due c).At-loop-at).well-formed)
+    omega (arith, (due-at (goal.at.overflow_add-due c).At-loop-at).few, (follows (goal.at.overflow_add-due c).At-loop-at).well_formed)
 
 pub overflow_add-at : goal.overflow_add-at
 overflow_add-at c =
-    omega (arith, (follows (goal.at.overflow_add-at c).At-loop-at).well-formed)
+    omega (arith, (follows (goal.at.overflow_add-at c).At-loop-at).well_formed)
 
 pub loop-at-preserved-then-joins : goal.loop-at-preserved-then-joins
 loop-at-preserved-then-joins c = λ kind m.
@@ -82,22 +81,22 @@ term_part-part-requires c =
     ((follows (goal.at.term_part-part-requires c).At-loop-at).requires, omega (arith, from-length (follows (goal.at.term_part-part-requires c).At-loop-at).args.b.now c.loop-at.at))
 
 pub overflow_add-at-then-not-part : goal.overflow_add-at-then-not-part
-overflow_add-at-then-not-part c = let t = (goal.at.overflow_add-at-then-not-part c).After-term_part-part in omega (arith, short t, (called t).well-formed)
+overflow_add-at-then-not-part c = let t = (goal.at.overflow_add-at-then-not-part c).After-term_part-part in omega (arith, short t, (called t).well_formed)
 
 pub returns-then-not-part : goal.returns-then-not-part
 returns-then-not-part c =
-    let f = at-stuck _ _ _ (due-at (reached (goal.at.returns-then-not-part c).After-term_part-part)) (omega arith) (there (goal.at.returns-then-not-part c).After-term_part-part) (omega arith) (not-true _ c.if-not-part.true) in
+    let f = at-stuck _ _ _ (due-at (reached (goal.at.returns-then-not-part c).After-term_part-part)) (omega arith) (there (goal.at.returns-then-not-part c).After-term_part-part) (omega arith) c.if-not-part.true in
     finds-stopped _ _ _ f c.stopped.ensures
 
 pub overflow_add-at-else-joins : goal.overflow_add-at-else-joins
-overflow_add-at-else-joins c = let t = (goal.at.overflow_add-at-else-joins c).After-term_part-part in omega (arith, short t, (called t).well-formed)
+overflow_add-at-else-joins c = let t = (goal.at.overflow_add-at-else-joins c).After-term_part-part in omega (arith, short t, (called t).well_formed)
 
 pub loop-at-smaller : goal.loop-at-smaller
-loop-at-smaller c = let t = (goal.at.loop-at-smaller c).After-term_part-part in omega (arith, short t, (there t).some (not-false _ c.if-not-part.false))
+loop-at-smaller c = let t = (goal.at.loop-at-smaller c).After-term_part-part in omega (arith, short t, (there t).some c.if-not-part.false)
 
 pub loop-at-preserved : goal.loop-at-preserved
 loop-at-preserved c = λ kind m.
-    at-term kind _ _ ((reached (goal.at.loop-at-preserved c).After-term_part-part).loop.invariant kind m) (omega arith) (stands (goal.at.loop-at-preserved c).After-term_part-part kind m) (not-false _ c.if-not-part.false)
+    at-term kind _ _ ((reached (goal.at.loop-at-preserved c).After-term_part-part).loop.invariant kind m) (omega arith) (stands (goal.at.loop-at-preserved c).After-term_part-part kind m) c.if-not-part.false
 
 pub returns-then-due-eq0-2 : goal.returns-then-due-eq0-2
 returns-then-due-eq0-2 c = inr (at-whole _ _ _ (due-at (goal.at.returns-then-due-eq0-2 c).At-loop-at) (omega arith) c.if-due-eq0-2.true)

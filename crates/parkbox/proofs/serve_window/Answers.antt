@@ -13,16 +13,16 @@ use Rattle.parkbox.proofs.Underway.{made-by-load, made-by-call, box_of, Underway
 use Rattle.parkbox.proofs.Underway.{back, back-length, served-on, last-has-room, waiting, over-here}
 use Rattle.parkbox.specs.Windows.{line_lent}
 use Rattle.parkbox.proofs.serve_window.Goals as goal
-use Rattle.parkbox.proofs.serve_window.Goals.{After-next_size-size, After-tell_answer-n, After-tell_answer-n-in-loop-state}
+use Rattle.parkbox.proofs.serve_window.Goals.{After-may_play, After-next_size-size, After-serve_record-served, After-tell_answer-n, After-tell_answer-n-in-loop-state, Start}
 
 -- where the size of the next record is known, back to where the turn began; and where the record was served, back to that
-abbrev turned : tie.After-next-size invariant-loop decreases-loop → tie.After-may-play invariant-loop decreases-loop
-turned c = c.before.before.before
+abbrev turned : After-next_size-size → After-may_play
+turned c = (goal.at.@NEED@ c).After-may_play
 
-abbrev sized : tie.After-serve-record invariant-loop decreases-loop → tie.After-next-size invariant-loop decreases-loop
-sized c = c.before.before.before.before
+abbrev sized : After-serve_record-served → After-next_size-size
+sized c = (goal.at.@NEED@ c).After-next_size-size
 
-abbrev entry : tie.After-next-size invariant-loop decreases-loop → tie.Start invariant-loop decreases-loop
+abbrev entry : After-next_size-size → Start
 entry c = (turned c).before.before.before.before.before
 
 room-there : (c : After-next_size-size) → (turned c).before.loop.n ≤ length (turned c).before.loop.out
@@ -52,11 +52,11 @@ On c state out k =
     ((turned c).before.loop.used + c.next_size-size.result) (back g out) ((turned c).before.loop.n + k)
 
 -- where a line was told, back to where the record was served
-abbrev served : tie.After-tell-answer invariant-loop decreases-loop → tie.After-serve-record invariant-loop decreases-loop
-served c = c.before.before.before.before.before.before.before
+abbrev served : After-tell_answer-n → After-serve_record-served
+served c = (goal.at.@NEED@ c).After-serve_record-served
 
-abbrev served2 : tie.After-tell-answer2 invariant-loop decreases-loop → tie.After-serve-record invariant-loop decreases-loop
-served2 c = c.before.before.before.before.before
+abbrev served2 : After-tell_answer-n-in-loop-state → After-serve_record-served
+served2 c = (goal.at.@NEED@ c).After-serve_record-served
 
 loaded : (c : After-tell_answer-n)
     → On (sized (served c)) c.load_record-loaded.result.after.state c.tell_answer-n.new.1.1.1.0 c.tell_answer-n.result
@@ -109,7 +109,7 @@ overflow_add-n c =
     let g = (turned (goal.at.overflow_add-n c).After-next_size-size).before.loop.invariant in
     let yes = c.loop-state-test.true in
     let some = ltb (turned (goal.at.overflow_add-n c).After-next_size-size).before.loop.used (length (entry (goal.at.overflow_add-n c).After-next_size-size).args.window.now) in
-    omega (arith, last-has-room g some ((turned (goal.at.overflow_add-n c).After-next_size-size).may-play.ensures.has_room yes) c.tell_last-n.ensures, (entry (goal.at.overflow_add-n c).After-next_size-size).well-formed)
+    omega (arith, last-has-room g some ((turned (goal.at.overflow_add-n c).After-next_size-size).may-play.ensures.has_room yes) c.tell_last-n.ensures, (entry (goal.at.overflow_add-n c).After-next_size-size).well_formed)
 
 pub shape_of-out-then-size-eq0 : goal.shape_of-out-then-size-eq0
 shape_of-out-then-size-eq0 c =
@@ -128,7 +128,7 @@ returns-then-size-eq0 c =
     rw c.came_to.ensures over
 
 pub overflow_add-end : goal.overflow_add-end
-overflow_add-end c = let at = (goal.at.overflow_add-end c).After-next_size-size in omega (arith, in_window at, (entry at).well-formed)
+overflow_add-end c = let at = (goal.at.overflow_add-end c).After-next_size-size in omega (arith, in_window at, (entry at).well_formed)
 
 pub slice_bounds-serve_record-end : goal.slice_bounds-serve_record-end
 slice_bounds-serve_record-end c = in_window (goal.at.slice_bounds-serve_record-end c).After-next_size-size

@@ -16,7 +16,7 @@ four-set (x ∷ y ∷ z ∷ []) h = absurd (omega arith)
 four-set (x ∷ y ∷ z ∷ w ∷ l) h = refl
 
 pub returns-then-not-left : goal.returns-then-not-left
-returns-then-not-left c = let none = not-true c.args.false c.if-not-left.true in rw none (refl, refl)
+returns-then-not-left c = let none = not-true c.args.left c.if-not-left.true in rw none (refl, refl)
 
 pub bounds-out-1 : goal.bounds-out-1
 bounds-out-1 c = simp length-set (omega arith)
@@ -28,4 +28,4 @@ pub bounds-out-3 : goal.bounds-out-3
 bounds-out-3 c = simp length-set (omega arith)
 
 pub returns : goal.returns
-returns c = let some = not-false c.args.false c.if-not-left.false in rw some (refl, four-set c.args.out.now (omega arith))
+returns c = let some = not-false c.args.left c.if-not-left.false in rw some (refl, four-set c.args.out.now (omega arith))

@@ -1,5 +1,4 @@
 -- `print_seen` meets its contract: a refusal leaves the output, length 0 prints nothing, and an expression is printed. Assumes nothing.
-use borrow.Author.Tests.{not-true, not-false}
 use Rattle.print.proofs.Answering.{print-refused, print-empty, print-ahead, print-done}
 use Rattle.print.proofs.print_seen.Goals as goal
 
@@ -11,7 +10,7 @@ returns-then-not-granted c =
     let d = c.print_answer-answer.ensures in
     let once = d w.0 w.1.0 w.1.1.0 w.1.1.1 in
     let i = c.granted.ensures in
-    let n = not-true _ c.if-not-granted.true in
+    let n = c.if-not-granted.true in
     ((λ slot file s v. (print-refused s x o _ (d slot file s v) i n).0), (print-refused w.1.1.0 x o _ once i n).1)
 
 pub returns-then-x-eq0 : goal.returns-then-x-eq0
@@ -21,7 +20,7 @@ returns-then-x-eq0 c =
     let o = c.args.out.now in
     let d = c.print_answer-answer.ensures in
     let once = d w.0 w.1.0 w.1.1.0 w.1.1.1 in
-    let g = c.granted.ensures.0 (not-false _ c.if-not-granted.false) in
+    let g = c.granted.ensures.0 c.if-not-granted.false in
     let e = c.if-x-eq0.true in
     ((λ slot file s v. (print-empty s x o _ (d slot file s v) g e).0), (print-empty w.1.1.0 x o _ once g e).1)
 
@@ -32,7 +31,7 @@ print_front-printed-requires c =
     let o = c.args.out.now in
     let d = c.print_answer-answer.ensures in
     let once = d w.0 w.1.0 w.1.1.0 w.1.1.1 in
-    print-ahead w.1.1.0 x o _ once (c.granted.ensures.0 (not-false _ c.if-not-granted.false)) c.if-x-eq0.false
+    print-ahead w.1.1.0 x o _ once (c.granted.ensures.0 c.if-not-granted.false) c.if-x-eq0.false
 
 pub returns : goal.returns
 returns c =
@@ -41,7 +40,7 @@ returns c =
     let o = c.args.out.now in
     let d = c.print_answer-answer.ensures in
     let once = d w.0 w.1.0 w.1.1.0 w.1.1.1 in
-    let g = c.granted.ensures.0 (not-false _ c.if-not-granted.false) in
+    let g = c.granted.ensures.0 c.if-not-granted.false in
     let f = c.if-x-eq0.false in
     let p = c.print_front-printed.ensures in
     let i = c.at.ensures in

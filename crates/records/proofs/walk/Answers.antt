@@ -4,7 +4,6 @@ use mathlib.Core.Logic.{inl, inr}
 use Prim.Native.Nat.{◌-◌, ◌<◌}
 use native.Mathlib.Omega.{arith}
 use lib.ListN.{length}
-use borrow.Author.Tests.{not-true, not-false}
 use Rattle.records.specs.Walk.{shapes_in}
 use Rattle.records.specs.Places.{walk_begins, walk-stops, walk-goes, walk_ends, shapes-count, shape-next}
 use borrow.Author.Rules.{rules}
@@ -27,7 +26,7 @@ returns-then-not-met c =
     let more : c.loop-i.i < c.args.n = omega (arith, c.loop-i-test) in
     let next = shape-next c.args.n c.args.of (omega (arith, c.requires)) c.loop-i.i more in
     let field = c.read_field-met.ensures in
-    let cut = field.cut (not-true _ c.if-not-met.true) in
+    let cut = field.cut c.if-not-met.true in
     inr (walk-stops bs ss c.loop-i.i c.loop-i.at c.loop-i.fields c.loop-i.invariant.1 _ next cut, c.none.ensures)
 
 pub loop-i-preserved : goal.loop-i-preserved
@@ -38,7 +37,7 @@ loop-i-preserved c =
     let more : c.loop-i.i < c.args.n = omega (arith, c.loop-i-test) in
     let next = shape-next c.args.n c.args.of (omega (arith, c.requires)) c.loop-i.i more in
     let field = c.read_field-met.ensures in
-    let there = field.there (not-false _ c.if-not-met.false) in
+    let there = field.there c.if-not-met.false in
     (omega arith, walk-goes bs ss c.loop-i.i c.loop-i.at c.loop-i.fields c.loop-i.invariant.1 _ next _ there (omega arith))
 
 pub returns : goal.returns

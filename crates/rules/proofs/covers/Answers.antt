@@ -1,6 +1,5 @@
 -- `rules::covers` meets its contract: the sets at hand have the members of those that are meant, and E and G are tested one after the other. Assumes nothing.
 use native.Mathlib.Omega.{arith}
-use borrow.Author.Tests.{not-true, not-false}
 use Rattle.logic.specs.Iff.{iff-trans, not-then-false, no_iff}
 use Rattle.rules.proofs.Row.{same-altered}
 use Rattle.rules.proofs.covers.Goals as goal
@@ -21,7 +20,7 @@ returns-then-not-alters_within c =
     let b = c.role_set-b.ensures in
     let old = rw c.file_place.ensures at c.file_set-old_e.ensures in
     let test = iff-trans c.alters_within.ensures (same-altered old c.set_of-new_e.ensures b) in
-    no_iff (λ w. not-then-false test (not-true _ c.if-not-alters_within.true) w.of-e)
+    no_iff (λ w. not-then-false test c.if-not-alters_within.true w.of-e)
 
 pub file_set-old_g-requires : goal.file_set-old_g-requires
 file_set-old_g-requires c =
@@ -38,4 +37,4 @@ returns c =
     let first = iff-trans c.alters_within.ensures (same-altered old-e c.set_of-new_e.ensures b) in
     let old-g = rw c.file_place-2.ensures at c.file_set-old_g.ensures in
     let second = iff-trans c.alters_within-2.ensures (same-altered old-g c.set_of-new_g.ensures b) in
-    iff-trans second ((λ w. record { of-e = first.0 (not-false _ c.if-not-alters_within.false); of-g = w }), λ w. w.of-g)
+    iff-trans second ((λ w. record { of-e = first.0 c.if-not-alters_within.false; of-g = w }), λ w. w.of-g)

@@ -1,6 +1,5 @@
 -- `rules::plus_passes` meets its contract: the set at hand has V+'s members, and the two tests are the two facts. Assumes nothing.
 use native.Mathlib.Omega.{arith}
-use borrow.Author.Tests.{not-true, not-false}
 use Rattle.logic.specs.Iff.{iff-trans, not-then-false, no_iff}
 use Rattle.expression.specs.Laws.{same-t1}
 use Rattle.securon.specs.Laws.{same-part}
@@ -16,7 +15,7 @@ pub returns-then-not-meets_t1 : goal.returns-then-not-meets_t1
 returns-then-not-meets_t1 c =
     let plus = rw c.role_place.ensures at c.role_set-plus.ensures in
     let test = rw c.file_place.ensures at c.meets_t1.ensures in
-    no_iff (λ w. not-then-false test (not-true _ c.if-not-meets_t1.true) ((same-t1 _ _ _ plus _).1 w.0))
+    no_iff (λ w. not-then-false test c.if-not-meets_t1.true ((same-t1 _ _ _ plus _).1 w.0))
 
 pub file_set-e-requires : goal.file_set-e-requires
 file_set-e-requires c =
@@ -28,5 +27,5 @@ returns c =
     let plus = rw c.role_place.ensures at c.role_set-plus.ensures in
     let test = rw c.file_place.ensures at c.meets_t1.ensures in
     let e = rw c.file_place-2.ensures at c.file_set-e.ensures in
-    let met = (same-t1 _ _ _ plus _).0 (test.0 (not-false _ c.if-not-meets_t1.false)) in
+    let met = (same-t1 _ _ _ plus _).0 (test.0 c.if-not-meets_t1.false) in
     iff-trans c.part.ensures (iff-trans (same-part e plus) ((λ w. (met, w)), λ w. w.1))

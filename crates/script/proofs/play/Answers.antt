@@ -15,7 +15,7 @@ returns-then-rest-eq0 c = says-ended _ _ _ c.uncalled.ensures.1 c.uncalled.ensur
 pub play_store-requires : goal.play_store-requires
 play_store-requires c =
     let rest = c.args.rest.now in
-    ⊎_elim (λ w. let e = w.true in (omega arith, omega arith, omega arith))
+    ⊎_elim (λ w. let e = w.taken in (omega arith, omega arith, omega arith))
     (λ w. let e : get_or rest 0 0 ≡ 5 = eqb-true _ 5 w.1.true in (omega arith, omega arith, omega arith)) c.then-code-eq-CHANGE.branch
 
 pub returns : goal.returns

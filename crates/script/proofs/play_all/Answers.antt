@@ -4,7 +4,6 @@ use mathlib.Core.Path.{◌≡◌}
 use Prim.Native.Nat.{◌-◌}
 use lib.ListN.{length}
 use native.Mathlib.Omega.{arith}
-use borrow.Author.Tests.{not-true, not-false}
 use Rattle.script.proofs.Going.{going-first, stops, goes}
 use Rattle.script.proofs.play_all.Goals as goal
 
@@ -22,16 +21,16 @@ returns-then-not-told c =
     let turn = c.loop-s in
     let play = c.play-played in
     let tell = c.tell-told in
-    stops turn.invariant play.result tell.new.0 tell.result play.ensures tell.ensures (not-true _ c.if-not-told.true)
+    stops turn.invariant play.result tell.new.0 tell.result play.ensures tell.ensures c.if-not-told.true
 
 pub overflow_add-at : goal.overflow_add-at
 overflow_add-at c =
     let turn = c.loop-s in
     let play = c.play-played in
     let tell = c.tell-told in
-    let more = not-false _ c.if-not-told.false in
+    let more = c.if-not-told.false in
     let g = goes turn.invariant play.result tell.new.0 tell.result play.ensures tell.ensures more (omega (arith, tell.auto)) in
-    omega (arith, g.1.within, c.well-formed)
+    omega (arith, g.1.within, c.well_formed)
 
 pub offset_bounds-s-i : goal.offset_bounds-s-i
 offset_bounds-s-i c = omega (arith, c.play-played.ensures.within)
@@ -44,7 +43,7 @@ loop-s-smaller c =
     let turn = c.loop-s in
     let play = c.play-played in
     let tell = c.tell-told in
-    let more = not-false _ c.if-not-told.false in
+    let more = c.if-not-told.false in
     let g = goes turn.invariant play.result tell.new.0 tell.result play.ensures tell.ensures more (omega (arith, tell.auto)) in
     omega (arith, g.0, g.1.within)
 
@@ -53,5 +52,5 @@ loop-s-preserved c =
     let turn = c.loop-s in
     let play = c.play-played in
     let tell = c.tell-told in
-    let more = not-false _ c.if-not-told.false in
+    let more = c.if-not-told.false in
     (goes turn.invariant play.result tell.new.0 tell.result play.ensures tell.ensures more (omega (arith, tell.auto))).1

@@ -5,19 +5,18 @@ use mathlib.Core.Bool.{true}
 use Prim.Native.Nat.{◌+◌, ◌-◌, ◌<◌, ◌≤◌}
 use native.Mathlib.Omega.{arith}
 use lib.ListN.{length}
-use borrow.Author.Tests.{not-true, not-false}
 use Rattle.gate.specs.Effects.{after}
 use Rattle.script.proofs.Going.{Going, going-first, goes}
 use Rattle.script.proofs.Windowing.{paused, finished, fits_on}
 use Rattle.script.proofs.play_records.Goals as goal
-use Rattle.script.proofs.play_records.Goals.{After-tell-told}
+use Rattle.script.proofs.play_records.Goals.{After-may_play, After-play-played, After-tell-told}
 
 -- where a record was told, back to where the turn began
-abbrev turned : tie.After-tell invariant-loop decreases-loop → tie.After-may-play invariant-loop decreases-loop
-turned c = c.before.before.before.before.before.before.before
+abbrev turned : After-tell-told → After-may_play
+turned c = (goal.at.@NEED@ c).After-may_play
 
-abbrev played : tie.After-tell invariant-loop decreases-loop → tie.After-play invariant-loop decreases-loop
-played c = c.before.before.before.before
+abbrev played : After-tell-told → After-play-played
+played c = (goal.at.@NEED@ c).After-play-played
 
 record Onward (c : After-tell-told) : Type 0 where
   further : 0 < c.tell-told.result.used
@@ -64,12 +63,12 @@ returns-then-not-told c =
     let may = (turned (goal.at.returns-then-not-told c).After-tell-told).may-play.ensures in
     let bytes = (turned (goal.at.returns-then-not-told c).After-tell-told).before.before.before.shared-slice-known.given in
     finished turn.inv.0 turn.inv.1 (may.has_room yes) _ (may.has-bytes yes) (λ i. omega (arith, bytes i))
-    play.result tell.new.0 tell.result play.ensures tell.ensures (not-true _ c.if-not-told.true)
+    play.result tell.new.0 tell.result play.ensures tell.ensures c.if-not-told.true
 
 pub overflow_add-at : goal.overflow_add-at
 overflow_add-at c =
-    let next = onward (goal.at.overflow_add-at c).After-tell-told (not-false _ c.if-not-told.false) in
-    omega (arith, next.going.within, (turned (goal.at.overflow_add-at c).After-tell-told).before.before.before.before.well-formed)
+    let next = onward (goal.at.overflow_add-at c).After-tell-told c.if-not-told.false in
+    omega (arith, next.going.within, (turned (goal.at.overflow_add-at c).After-tell-told).before.before.before.before.well_formed)
 
 pub offset_bounds-s-i : goal.offset_bounds-s-i
 offset_bounds-s-i c =
@@ -81,12 +80,12 @@ bounds-s-i c =
 
 pub loop-s-smaller : goal.loop-s-smaller
 loop-s-smaller c =
-    let next = onward (goal.at.loop-s-smaller c).After-tell-told (not-false _ c.if-not-told.false) in
+    let next = onward (goal.at.loop-s-smaller c).After-tell-told c.if-not-told.false in
     omega (arith, next.further, next.going.within)
 
 pub loop-s-preserved : goal.loop-s-preserved
 loop-s-preserved c =
-    let next = onward (goal.at.loop-s-preserved c).After-tell-told (not-false _ c.if-not-told.false) in
+    let next = onward (goal.at.loop-s-preserved c).After-tell-told c.if-not-told.false in
     (next.going, next.fits)
 
 pub shape_of-out : goal.shape_of-out

@@ -62,10 +62,10 @@ pub loop-i-init : goal.loop-i-init
 loop-i-init c = (omega arith, refl, refl)
 
 pub overflow_add-window : goal.overflow_add-window
-overflow_add-window c = omega (arith, c.well-formed)
+overflow_add-window c = omega (arith, c.well_formed)
 
 pub overflow_add-i : goal.overflow_add-i
-overflow_add-i c = omega (arith, c.well-formed)
+overflow_add-i c = omega (arith, c.well_formed)
 
 pub loop-i-preserved : goal.loop-i-preserved
 loop-i-preserved c =

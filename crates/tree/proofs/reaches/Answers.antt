@@ -13,7 +13,7 @@ use Rattle.tree.specs.declared.Walk.TheVariants.{Found, Root, Missed}
 use Rattle.tree.specs.Tree.{Reaches, here, up}
 use Rattle.tree.specs.Laws.{reaches-up, reaches-root, reaches-smaller, climbs-up}
 use Rattle.tree.proofs.reaches.Goals as goal
-use Rattle.tree.proofs.reaches.Goals.{Joined-at-target}
+use Rattle.tree.proofs.reaches.Goals.{Joined-at-target, then-at-target, else-at-target+then-at, else-at-target+else-at+then-at-target-2}
 
 -- what the end of a walk tells of where it stood
 abbrev Tells : List ℕ → ℕ → ℕ → Walk → Type 0
@@ -24,12 +24,12 @@ Tells parent at target Missed = Reaches parent at target → ⊥
 told : (c : Joined-at-target) → Tells c.args.parent.now c.loop-at.at c.args.high.0 c.if-at-target.end
 told c =
     let T = Tells c.args.parent.now c.loop-at.at c.args.high.0 in
-    ⊎_elim
-    (λ w. subst T (sym w.1) (subst (Reaches c.args.parent.now c.loop-at.at) w.0.true here))
-    (⊎_elim
-    (λ w. subst T (sym w.3) (λ r. w.0.false (reaches-root r (omega (arith, w.2.true)))))
-    (λ w. subst T (sym w.4) (λ r. omega (arith, reaches-smaller r c.loop-at.invariant.0, w.3.true))))
-    c.if-at-target.branch
+    elim c.if-at-target.branch [
+      then-at-target w ↦ subst T (sym w.end-is) (subst (Reaches c.args.parent.now c.loop-at.at) w.if-at-target.true here)
+    | else-at-target+then-at w ↦ subst T (sym w.end-is) (λ r. w.if-at-target.false (reaches-root r (omega (arith, w.if-at.true))))
+    | else-at-target+else-at+then-at-target-2 w ↦
+        subst T (sym w.end-is) (λ r. omega (arith, reaches-smaller r c.loop-at.invariant.0, w.if-at-target-2.true))
+    ]
 
 pub loop-at-init : goal.loop-at-init
 loop-at-init c = (c.requires, iff-refl)

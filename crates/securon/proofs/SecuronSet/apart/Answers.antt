@@ -10,6 +10,7 @@ use Rattle.securon.specs.Sets.{set_room}
 use Rattle.logic.specs.Every.{flag-none, flag-keep, flag-drop, flag-all}
 use Rattle.securon.specs.Laws.{beyond}
 use Rattle.securon.proofs.SecuronSet.apart.Goals as goal
+use Rattle.securon.proofs.SecuronSet.apart.Goals.{then-other-k+then-self-k, then-other-k+else-self-k, else-other-k}
 
 pub loop-k-init : goal.loop-k-init
 loop-k-init c = (search rules, flag-none _)
@@ -18,12 +19,11 @@ pub loop-k-preserved : goal.loop-k-preserved
 loop-k-preserved c =
     let f = c.loop-k.invariant.1 in (
       omega arith,
-      ⊎_elim
-          (λ w. rw w.3 (flag-drop f (λ h. h w.2.true w.0.true)))
-          (⊎_elim
-          (λ w. rw w.3 (flag-keep f (λ m n. false≢true (sym w.2.false ∙ m))))
-          (λ w. rw w.1 (flag-keep f (λ m n. false≢true (sym w.0.false ∙ n)))))
-          c.if-other-k.branch,
+      elim c.if-other-k.branch [
+        then-other-k+then-self-k w ↦ rw w.none-is (flag-drop f (λ h. h w.if-self-k.true w.if-other-k.true))
+      | then-other-k+else-self-k w ↦ rw w.none-is (flag-keep f (λ m n. false≢true (sym w.if-self-k.false ∙ m)))
+      | else-other-k w ↦ rw w.none-is (flag-keep f (λ m n. false≢true (sym w.if-other-k.false ∙ n)))
+      ],
     )
 
 pub returns : goal.returns

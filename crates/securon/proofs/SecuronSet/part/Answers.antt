@@ -11,6 +11,7 @@ use Rattle.securon.specs.Sets.{set_room}
 use Rattle.logic.specs.Every.{flag-none, flag-keep, flag-drop, flag-all}
 use Rattle.securon.specs.Laws.{beyond}
 use Rattle.securon.proofs.SecuronSet.part.Goals as goal
+use Rattle.securon.proofs.SecuronSet.part.Goals.{then-self-k+then-not-whole-k, then-self-k+else-not-whole-k, else-self-k}
 
 pub loop-k-init : goal.loop-k-init
 loop-k-init c = (search rules, flag-none _)
@@ -19,12 +20,11 @@ pub loop-k-preserved : goal.loop-k-preserved
 loop-k-preserved c =
     let f = c.loop-k.invariant.1 in (
       omega arith,
-      ⊎_elim
-          (λ w. rw w.3 (flag-drop f (λ h. false≢true (sym (not-true _ w.2.true) ∙ h w.0.true))))
-          (⊎_elim
-          (λ w. rw w.3 (flag-keep f (λ m. not-false _ w.2.false)))
-          (λ w. rw w.1 (flag-keep f (λ m. absurd (false≢true (sym w.0.false ∙ m))))))
-          c.if-self-k.branch,
+      elim c.if-self-k.branch [
+        then-self-k+then-not-whole-k w ↦ rw w.ok-is (flag-drop f (λ h. false≢true (sym w.if-not-whole-k.true ∙ h w.if-self-k.true)))
+      | then-self-k+else-not-whole-k w ↦ rw w.ok-is (flag-keep f (λ m. w.if-not-whole-k.false))
+      | else-self-k w ↦ rw w.ok-is (flag-keep f (λ m. absurd (false≢true (sym w.if-self-k.false ∙ m))))
+      ],
     )
 
 pub returns : goal.returns

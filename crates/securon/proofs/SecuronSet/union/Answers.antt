@@ -9,6 +9,7 @@ use lib.ListN.{length}
 use Rattle.securon.specs.Sets.{set_room}
 use Rattle.securon.specs.Laws.{within, joined-none, joined-skip, joined-mark, joined-all}
 use Rattle.securon.proofs.SecuronSet.union.Goals as goal
+use Rattle.securon.proofs.SecuronSet.union.Goals.{then-more-k, else-more-k}
 
 pub loop-k-init : goal.loop-k-init
 loop-k-init c = (search rules, joined-none _ _)
@@ -18,10 +19,10 @@ loop-k-preserved c =
     let g : length c.args.self.has ≡ set_room = search rules in
     let j = c.loop-k.invariant.1 in (
       omega arith,
-      ⊎_elim
-          (λ w. rw w.1 (joined-mark j (omega arith) w.0.true))
-          (λ w. rw w.1 (joined-skip j (λ m. false≢true (sym w.0.false ∙ m))))
-          c.if-more-k.branch,
+      elim c.if-more-k.branch [
+        then-more-k w ↦ rw w.r-is (joined-mark j (omega arith) w.if-more-k.true)
+      | else-more-k w ↦ rw w.r-is (joined-skip j (λ m. false≢true (sym w.if-more-k.false ∙ m)))
+      ],
     )
 
 pub returns : goal.returns

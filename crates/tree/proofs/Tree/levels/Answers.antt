@@ -7,6 +7,7 @@ use Rattle.logic.specs.Iff.{not-then-false}
 use Rattle.securon.specs.declared.Level.{Level}
 use Rattle.tree.proofs.Rising.{rising-root, rising-more, risen}
 use Rattle.tree.proofs.Tree.levels.Goals as goal
+use Rattle.tree.proofs.Tree.levels.Goals.{then-over, else-over}
 
 pub loop-u-init : goal.loop-u-init
 loop-u-init c = (omega arith, omega (arith, c.requires.count), rising-root _)
@@ -41,16 +42,16 @@ loop-u-preserved c =
     let more = rising-more l.invariant.2 next.result c.if-over.depth.0 next.ensures l.invariant.0 (omega (arith, p.count)) less in (
       omega arith,
       omega arith,
-      ⊎_elim
-          (λ w.
-          let e = ap (λ (x : Level). x.0) w.1 in
-          let over = c.over.ensures.0 w.0.true in
-          more (omega arith) (omega arith) (inl e))
-          (λ w.
-          let e = ap (λ (x : Level). x.0) w.1 in
-          let not-over = not-then-false c.over.ensures w.0.false in
-          more (omega arith) (omega arith) (inr e))
-          c.if-over.branch,
+      elim c.if-over.branch [
+        then-over w ↦
+          let e = ap (λ (x : Level). x.0) w.depth-is in
+          let over = c.over.ensures.0 w.if-over.true in
+          more (omega arith) (omega arith) (inl e)
+      | else-over w ↦
+          let e = ap (λ (x : Level). x.0) w.depth-is in
+          let not-over = not-then-false c.over.ensures w.if-over.false in
+          more (omega arith) (omega arith) (inr e)
+      ],
     )
 
 pub returns : goal.returns
