@@ -42,7 +42,7 @@ pub covers-requires : goal.covers-requires
 covers-requires c =
     let (s, x) = c.requires in
     let h = store-named s _ _ _ Privilege _ _ (passed (goal.at.covers-requires c).Else-not-granted s x) in
-    let w = h.row.session.well_formed in
+    let w = h.row.session.well-formed in
     record {
       at-hand = at-hand x h.row.session h.row.present;
       is-mode = h.row.is-mode;

@@ -47,7 +47,7 @@ pub returns : goal.returns
 returns c =
     let g = c.examine_tree-grown in
     let a = c.args in
-    let s = state_of_parts a.tree a.nroles a.t3 a.nfiles a.t5 a.slots in
+    let s = state_of_parts a.tree a.nroles a.roles a.nfiles a.files a.slots in
     let t = g.ensures in
     let rs : length s.roles ≡ most_roles = c.well_formed.1.1.0.1.0.1 in
     let fs : length s.files ≡ most_files = c.well_formed.1.1.1.1.0.1.0.1 in

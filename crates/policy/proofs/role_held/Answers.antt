@@ -11,8 +11,8 @@ use Rattle.policy.proofs.role_held.Goals as goal
 pub returns-then-slot-ge-SLOTS : goal.returns-then-slot-ge-SLOTS
 returns-then-slot-ge-SLOTS c =
     let a = c.args in
-    let long : length a.t1 ≡ slot_count = search rules in
-    let none : get_or a.t1 a.slot 0 ≡ 0 = get_or-eq_default a.t1 0 {n = a.slot} (omega (arith, c.if-slot-ge-SLOTS.true)) in
+    let long : length a.slots ≡ slot_count = search rules in
+    let none : get_or a.slots a.slot 0 ≡ 0 = get_or-eq_default a.slots 0 {n = a.slot} (omega (arith, c.if-slot-ge-SLOTS.true)) in
     let free = ap (λ (x : ℕ). role_in (held_in x)) none in
     record { within = omega arith; is = λ _. sym free; else = λ h. refl }
 

@@ -16,5 +16,5 @@ returns-in-3 c = rw c.in-3.is (refl, omega arith)
 pub returns-in_default : goal.returns-in_default
 returns-in_default c =
     let shape = c.args.shape in
-    let no = c.in_default.rest in
+    let no = c.in_default.in_default-own.rest in
     rw (ne_eqb shape 1 no.0.0.1, ne_eqb shape 2 no.0.1, ne_eqb shape 3 no.1) (refl, omega arith)

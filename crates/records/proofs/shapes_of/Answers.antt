@@ -27,5 +27,5 @@ returns-in-16 c = rw (c.line-in-16.ensures, c.in-16.is) (a-line 16 _ _ code-10 (
 
 pub returns-in_default : goal.returns-in_default
 returns-in_default c =
-    let no = c.in_default.rest in
+    let no = c.in_default.in_default-own.rest in
     no_line c.args.code 0 _ no.0.0.0.0.0.0.1 no.0.0.0.0.0.1 no.0.0.0.0.1 no.0.0.0.1 no.0.0.1 no.0.1 no.1

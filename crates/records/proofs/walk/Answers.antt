@@ -2,6 +2,7 @@
 use mathlib.Core.Path.{◌≡◌}
 use mathlib.Core.Logic.{inl, inr}
 use Prim.Native.Nat.{◌-◌, ◌<◌}
+use borrow.Author.Tests.{not-true, not-false}
 use native.Mathlib.Omega.{arith}
 use lib.ListN.{length}
 use Rattle.records.specs.Walk.{shapes_in}
@@ -26,7 +27,7 @@ returns-then-not-met c =
     let more : c.loop-i.i < c.args.n = omega (arith, c.loop-i-test) in
     let next = shape-next c.args.n c.args.of (omega (arith, c.requires)) c.loop-i.i more in
     let field = c.read_field-met.ensures in
-    let cut = field.cut c.if-not-met.true in
+    let cut = field.cut (not-true _ c.if-not-met.true) in
     inr (walk-stops bs ss c.loop-i.i c.loop-i.at c.loop-i.fields c.loop-i.invariant.1 _ next cut, c.none.ensures)
 
 pub loop-i-preserved : goal.loop-i-preserved
@@ -37,7 +38,7 @@ loop-i-preserved c =
     let more : c.loop-i.i < c.args.n = omega (arith, c.loop-i-test) in
     let next = shape-next c.args.n c.args.of (omega (arith, c.requires)) c.loop-i.i more in
     let field = c.read_field-met.ensures in
-    let there = field.there c.if-not-met.false in
+    let there = field.there (not-false _ c.if-not-met.false) in
     (omega arith, walk-goes bs ss c.loop-i.i c.loop-i.at c.loop-i.fields c.loop-i.invariant.1 _ next _ there (omega arith))
 
 pub returns : goal.returns
