@@ -53,13 +53,13 @@ module _ (Legal : List ℕ → Type 0) (bytes : List ℕ) where
         l,
   )
 
-  not-before : {k m : ℕ} → FaultAt Legal bytes k → FaultAt Legal bytes m → k < m → ⊥
-  not-before {k} {m} f g h = f.there (omega (arith, g.within)) (begins-less (k + 1) m (omega arith) g.before)
-
   -- a first fault has one place
   pub one-fault : AtMostOne (FaultAt Legal bytes)
   one-fault k m f g = go (dec_lt k m) (dec_lt m k)
     where
+      not-before : {i j : ℕ} → FaultAt Legal bytes i → FaultAt Legal bytes j → i < j → ⊥
+      not-before {i} {j} p q h = p.there (omega (arith, q.within)) (begins-less (i + 1) j (omega arith) q.before)
+
       go : Dec (k < m) → Dec (m < k) → k ≡ m
       go (yes h) b = absurd (not-before f g h)
       go (no n) (yes h) = absurd (not-before g f h)

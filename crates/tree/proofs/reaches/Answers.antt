@@ -25,10 +25,10 @@ told : (c : Joined-at-target) → Tells c.args.parent.now c.loop-at.at c.args.hi
 told c =
     let T = Tells c.args.parent.now c.loop-at.at c.args.high.0 in
     elim c.if-at-target.branch [
-      then-at-target w ↦ subst T (sym w.end-is) (subst (Reaches c.args.parent.now c.loop-at.at) w.if-at-target.true here)
-    | else-at-target+then-at w ↦ subst T (sym w.end-is) (λ r. w.if-at-target.false (reaches-root r (omega (arith, w.if-at.true))))
-    | else-at-target+else-at+then-at-target-2 w ↦
-        subst T (sym w.end-is) (λ r. omega (arith, reaches-smaller r c.loop-at.invariant.0, w.if-at-target-2.true))
+      | then-at-target w ↦ subst T (sym w.end-is) (subst (Reaches c.args.parent.now c.loop-at.at) w.if-at-target.true here)
+      | else-at-target+then-at w ↦ subst T (sym w.end-is) (λ r. w.if-at-target.false (reaches-root r (omega (arith, w.if-at.true))))
+      | else-at-target+else-at+then-at-target-2 w ↦
+          subst T (sym w.end-is) (λ r. omega (arith, reaches-smaller r c.loop-at.invariant.0, w.if-at-target-2.true))
     ]
 
 pub loop-at-init : goal.loop-at-init

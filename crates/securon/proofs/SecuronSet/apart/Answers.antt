@@ -20,9 +20,9 @@ loop-k-preserved c =
     let f = c.loop-k.invariant.1 in (
       omega arith,
       elim c.if-other-k.branch [
-        then-other-k+then-self-k w ↦ rw w.none-is (flag-drop f (λ h. h w.if-self-k.true w.if-other-k.true))
-      | then-other-k+else-self-k w ↦ rw w.none-is (flag-keep f (λ m n. false≢true (sym w.if-self-k.false ∙ m)))
-      | else-other-k w ↦ rw w.none-is (flag-keep f (λ m n. false≢true (sym w.if-other-k.false ∙ n)))
+        | then-other-k+then-self-k w ↦ rw w.none-is (flag-drop f (λ h. h w.if-self-k.true w.if-other-k.true))
+        | then-other-k+else-self-k w ↦ rw w.none-is (flag-keep f (λ m n. false≢true (sym w.if-self-k.false ∙ m)))
+        | else-other-k w ↦ rw w.none-is (flag-keep f (λ m n. false≢true (sym w.if-other-k.false ∙ n)))
       ],
     )
 

@@ -21,9 +21,9 @@ loop-k-preserved c =
     let f = c.loop-k.invariant.1 in (
       omega arith,
       elim c.if-self-k.branch [
-        then-self-k+then-not-whole-k w ↦ rw w.ok-is (flag-drop f (λ h. false≢true (sym w.if-not-whole-k.true ∙ h w.if-self-k.true)))
-      | then-self-k+else-not-whole-k w ↦ rw w.ok-is (flag-keep f (λ m. w.if-not-whole-k.false))
-      | else-self-k w ↦ rw w.ok-is (flag-keep f (λ m. absurd (false≢true (sym w.if-self-k.false ∙ m))))
+        | then-self-k+then-not-whole-k w ↦ rw w.ok-is (flag-drop f (λ h. false≢true (sym w.if-not-whole-k.true ∙ h w.if-self-k.true)))
+        | then-self-k+else-not-whole-k w ↦ rw w.ok-is (flag-keep f (λ m. w.if-not-whole-k.false))
+        | else-self-k w ↦ rw w.ok-is (flag-keep f (λ m. absurd (false≢true (sym w.if-self-k.false ∙ m))))
       ],
     )
 

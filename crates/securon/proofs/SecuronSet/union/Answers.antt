@@ -20,8 +20,8 @@ loop-k-preserved c =
     let j = c.loop-k.invariant.1 in (
       omega arith,
       elim c.if-more-k.branch [
-        then-more-k w ↦ rw w.r-is (joined-mark j (omega arith) w.if-more-k.true)
-      | else-more-k w ↦ rw w.r-is (joined-skip j (λ m. false≢true (sym w.if-more-k.false ∙ m)))
+        | then-more-k w ↦ rw w.r-is (joined-mark j (omega arith) w.if-more-k.true)
+        | else-more-k w ↦ rw w.r-is (joined-skip j (λ m. false≢true (sym w.if-more-k.false ∙ m)))
       ],
     )
 

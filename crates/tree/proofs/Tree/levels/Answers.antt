@@ -43,14 +43,14 @@ loop-u-preserved c =
       omega arith,
       omega arith,
       elim c.if-over.branch [
-        then-over w ↦
-          let e = ap (λ (x : Level). x.0) w.depth-is in
-          let over = c.over.ensures.0 w.if-over.true in
-          more (omega arith) (omega arith) (inl e)
-      | else-over w ↦
-          let e = ap (λ (x : Level). x.0) w.depth-is in
-          let not-over = not-then-false c.over.ensures w.if-over.false in
-          more (omega arith) (omega arith) (inr e)
+        | then-over w ↦
+            let e = ap (λ (x : Level). x.0) w.depth-is in
+            let over = c.over.ensures.0 w.if-over.true in
+            more (omega arith) (omega arith) (inl e)
+        | else-over w ↦
+            let e = ap (λ (x : Level). x.0) w.depth-is in
+            let not-over = not-then-false c.over.ensures w.if-over.false in
+            more (omega arith) (omega arith) (inr e)
       ],
     )
 
