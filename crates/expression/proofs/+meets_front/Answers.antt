@@ -2,7 +2,7 @@
 -- The measure is the number of the remaining bytes. Assumes nothing.
 use mathlib.Core.Path.{◌≡◌, sym, subst}
 use mathlib.Core.List.{◌++◌}
-use Prim.Native.Nat.{ℕ, ◌+◌, ◌<◌}
+use Prim.Native.Nat.{ℕ, ◌+◌}
 use native.Mathlib.Omega.{arith}
 use Rattle.expression.specs.Scan.{from, from-length}
 use Rattle.expression.specs.Bytes.{bytes}

@@ -4,7 +4,6 @@ use mathlib.Core.Path.{◌≡◌}
 use Prim.Native.Nat.{ℕ, ◌+◌, ◌<◌, ◌-◌}
 use native.Mathlib.Decide.{ℕ_discrete}
 use native.Mathlib.Omega.{arith}
-use lib.ListN.{length}
 use Rattle.expression.specs.Scan.{from-length}
 use Rattle.expression.proofs.Gathering.{Gathered, gathered-start, gathered-end, gathered-and, gathered-front, gathered-term}
 use Rattle.expression.proofs.set_of.Goals as goal
