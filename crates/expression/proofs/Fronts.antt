@@ -136,7 +136,7 @@ module _ (t : Tree) (H : Set) (bs : List ℕ) where
         (o.0, rw (w.1 (λ e. omega (arith, byte 0 q))) (iff-trans (or-iff x y o.1 o.2) (iff-sym (meets-OR t H a b))))
 
 -- bytes that are right, and not none, are one expression, with nothing after it
-module _ {kind : Kind} {n d : ℕ} {bs : List ℕ} (some : length bs ≡ 0 → ⊥) (ok : Right kind n d bs) where
+module _ (kind : Kind) {n d : ℕ} {bs : List ℕ} (some : length bs ≡ 0 → ⊥) (ok : Right kind n d bs) where
   pub right-front : Front n bs
   right-front = ⊎_elim
       (λ e. absurd (some (ap length e)))

@@ -1,7 +1,6 @@
 -- `expression::meets_range` meets its contract: of the securons passed none is held and in the range. Assumes nothing.
 use mathlib.Core.Path.{refl, sym, ◌∙◌}
 use mathlib.Core.Bool.{false≢true}
-use mathlib.Core.Logic.{⊎_elim}
 use Prim.Native.Nat.{◌-◌}
 use native.Mathlib.Omega.{arith}
 use borrow.Author.Rules.{rules}
@@ -9,6 +8,7 @@ use borrow.Author.Count.{below_none, below_more}
 use Rattle.logic.specs.Iff.{iff-trans, not-then-false}
 use Rattle.expression.proofs.Ranges.{ready-climbs, between-iff}
 use Rattle.expression.proofs.meets_range.Goals as goal
+use Rattle.expression.proofs.meets_range.Goals.{then-held-k+else-between, else-held-k}
 
 pub loop-k-init : goal.loop-k-init
 loop-k-init c = (search rules, below_none _)
@@ -30,7 +30,7 @@ between-requires c =
 pub returns-then-between : goal.returns-then-between
 returns-then-between c =
     let i = iff-trans c.between.ensures (between-iff c.requires.0 _ _ _ _ (omega arith)) in
-    ((λ _. (l.loop.k, i.0 c.if-between.true, c.before.before.before.before.before.if1.true)), λ _. refl)
+    ((λ _. (c.loop-k.k, i.0 c.if-between.true, c.if-held-k.true)), λ _. refl)
 
 pub overflow_step-k : goal.overflow_step-k
 overflow_step-k c = omega (arith, c.requires.0.tree.count)
@@ -39,10 +39,11 @@ pub loop-k-preserved : goal.loop-k-preserved
 loop-k-preserved c = (
   omega arith,
   below_more _ _ c.loop-k.invariant.1
-      (⊎_elim
-      (λ w b m. not-then-false (iff-trans w.4.ensures (between-iff c.requires.0 _ _ _ _ (omega arith))) w.5.false b)
-      (λ w b m. false≢true (sym w.left ∙ m))
-      c.if-held-k.branch),
+      (elim c.if-held-k.branch [
+        then-held-k+else-between w ↦
+          λ b m. not-then-false (iff-trans w.between.ensures (between-iff c.requires.0 _ _ _ _ (omega arith))) w.if-between.false b
+      | else-held-k w ↦ λ b m. false≢true (sym w.if-held-k.false ∙ m)
+      ]),
 )
 
 pub returns : goal.returns

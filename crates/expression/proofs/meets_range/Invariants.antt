@@ -1,5 +1,4 @@
 -- `expression::meets_range` meets its contract: of the securons passed none is held and in the range. Assumes nothing.
-use mathlib.Core.Path.{◌∙◌}
 use Prim.Native.Nat.{ℕ, ◌<◌, ◌≤◌, ◌-◌}
 use Rattle.securon.specs.Sets.{marked}
 use Rattle.expression.specs.Expression.{Between}

@@ -4,11 +4,10 @@ use mathlib.Core.Path.{◌≡◌}
 use Prim.Native.Nat.{ℕ, ◌+◌, ◌<◌, ◌-◌}
 use native.Mathlib.Decide.{ℕ_discrete}
 use native.Mathlib.Omega.{arith}
-use lib.ListN.{length}
 use Rattle.expression.specs.Scan.{from-length}
 use Rattle.expression.proofs.Gathering.{Gathered, gathered-start, gathered-end, gathered-and, gathered-front, gathered-term}
 use Rattle.expression.proofs.set_of.Goals as goal
-use Rattle.expression.proofs.set_of.Goals.{After-width-at, At-loop-at, Start}
+use Rattle.expression.proofs.set_of.Goals.{After-width-at}
 
 -- a term has some bytes
 wide : {x w : ℕ} → (x ≡ 1 → w ≡ 2) × ((x ≡ 1 → ⊥) → w ≡ 4) → 0 < w
@@ -18,19 +17,11 @@ wide {x} {w} h = go (ℕ_discrete x 1)
     go (yes e) = omega (arith, h.0 e)
     go (no n) = omega (arith, h.1 n)
 
--- the place that the loop had reached, and the call
-abbrev reached : After-width-at → At-loop-at
-reached c = (goal.at.@NEED@ c).At-loop-at
-
-abbrev called : After-width-at → Start
-called c = (reached c).before.before.before
-
 -- a term was added, and the place is past it
-added : (c : After-width-at)
-    → Gathered (called c).args.t (called c).args.b.now c.with_term-r.result.has ((reached c).loop.at + c.width-at.result)
+added : (c : After-width-at) → Gathered c.args.t c.args.b.now c.with_term-r.result.has (c.loop-at.at + c.width-at.result)
 added c =
     let w = c.with_term-r in
-    gathered-term _ _ (reached c).loop.invariant (omega arith) c.if-code-eq-AND.false w.result.has c.width-at.result w.ensures c.width-at.ensures
+    gathered-term _ _ c.loop-at.invariant (omega arith) c.if-code-eq-AND.false w.result.has c.width-at.result w.ensures c.width-at.ensures
 
 pub loop-at-init : goal.loop-at-init
 loop-at-init c = gathered-start _ _ _ _ c.requires.1 c.empty-r.ensures
@@ -49,7 +40,7 @@ with_term-r-requires c =
     (c.requires.0, gathered-front _ _ c.loop-at.invariant (omega arith) c.if-code-eq-AND.false)
 
 pub overflow_add-at-else-code-eq-AND : goal.overflow_add-at-else-code-eq-AND
-overflow_add-at-else-code-eq-AND c = omega (arith, (added c).within, (called c).well_formed)
+overflow_add-at-else-code-eq-AND c = omega (arith, (added c).within, c.well_formed)
 
 pub loop-at-smaller : goal.loop-at-smaller
 loop-at-smaller c =

@@ -1,6 +1,5 @@
 -- `expression::set_of` meets its contract: what was read is in the set, and what is to follow will be.
 -- The measure is what is left of the bytes. Assumes nothing.
-use mathlib.Core.Path.{◌≡◌}
 use Prim.Native.Nat.{◌-◌}
 use lib.ListN.{length}
 use Rattle.expression.proofs.Gathering.{Gathered}

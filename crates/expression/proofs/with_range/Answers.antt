@@ -1,6 +1,5 @@
 -- `expression::with_range` meets its contract: the members of the range that were passed have been added. Assumes nothing.
 use mathlib.Core.Path.{◌≡◌}
-use mathlib.Core.Logic.{⊎_elim}
 use Prim.Native.Nat.{◌-◌}
 use native.Mathlib.Omega.{arith}
 use borrow.Author.Rules.{rules}
@@ -10,6 +9,7 @@ use Rattle.logic.specs.Iff.{iff-trans, not-then-false}
 use Rattle.securon.specs.Laws.{joined-none, joined-skip, joined-mark, joined-all}
 use Rattle.expression.proofs.Ranges.{ready-climbs, between-iff}
 use Rattle.expression.proofs.with_range.Goals as goal
+use Rattle.expression.proofs.with_range.Goals.{then-between, else-between}
 
 pub loop-k-init : goal.loop-k-init
 loop-k-init c = (search rules, joined-none _ _)
@@ -35,13 +35,13 @@ pub loop-k-preserved : goal.loop-k-preserved
 loop-k-preserved c =
     let p = c.requires in
     let g : length c.args.set.has ≡ set_room = search rules in
-    let j = c.before.before.before.before.before.before.loop.invariant.1 in
+    let j = c.loop-k.invariant.1 in
     let i = iff-trans c.between.ensures (between-iff p.0 _ _ _ _ (omega arith)) in (
       omega arith,
-      ⊎_elim
-          (λ w. rw w.1 (joined-mark j (omega (arith, p.0.tree.count)) (i.0 w.0.true)))
-          (λ w. rw w.1 (joined-skip j (not-then-false i w.0.false)))
-          c.if-between.branch,
+      elim c.if-between.branch [
+        then-between w ↦ rw w.r-is (joined-mark j (omega (arith, p.0.tree.count)) (i.0 w.if-between.true))
+      | else-between w ↦ rw w.r-is (joined-skip j (not-then-false i w.if-between.false))
+      ],
     )
 
 pub returns : goal.returns

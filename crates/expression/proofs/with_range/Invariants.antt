@@ -1,5 +1,4 @@
 -- `expression::with_range` meets its contract: the members of the range that were passed have been added. Assumes nothing.
-use mathlib.Core.Path.{◌≡◌}
 use Prim.Native.Nat.{◌≤◌, ◌-◌}
 use Rattle.securon.specs.Laws.{Joined}
 use Rattle.expression.specs.Expression.{Between}

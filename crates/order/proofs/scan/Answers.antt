@@ -5,6 +5,7 @@ use mathlib.Core.Bool.{true}
 use mathlib.Core.Logic.{inl, inr, ⊎_elim, ◌↔◌}
 use Prim.Native.Nat.{ℕ, ◌≤◌, ◌-◌}
 use native.Mathlib.Omega.{arith}
+use borrow.Author.Tests.{not-true, not-false}
 use lib.ListN.{length}
 use Rattle.expression.specs.declared.Kind.{Kind}
 use Rattle.logic.specs.Iff.{not-then-false}
@@ -13,41 +14,29 @@ use Rattle.expression.specs.Scan.{nil-of, from, from-length}
 use Rattle.order.specs.Heads.{Head}
 use Rattle.order.proofs.Scanning.{At, at-start, at-operator, at-term, at-stuck, at-over, at-whole, at-short, finds-stopped}
 use Rattle.order.proofs.scan.Goals as goal
-use Rattle.order.proofs.scan.Goals.{After-term_part-part, At-loop-at, Start}
+use Rattle.order.proofs.scan.Goals.{After-term_part-part, At-loop-at}
 
--- the call, and the place that the loop has reached, of a term that was looked at
-abbrev called : After-term_part-part → Start
-called c = (goal.at.@NEED@ c).Start
-
-abbrev reached : After-term_part-part → At-loop-at
-reached c = (goal.at.@NEED@ c).At-loop-at
-
--- how far that term stands, where no operator does
+-- how far a term that was looked at stands, where no operator does
 module _ (c : After-term_part-part) where
   abbrev Term : Kind → Type 0
   Term kind =
-      let a = (called c).args in
       let r = c.term_part-part.result in
-      Head kind a.n a.depth.0 (from a.b.now (reached c).loop.at) r.whole r.good
+      Head kind c.args.n c.args.depth.0 (from c.args.b.now c.loop-at.at) r.whole r.good
 
-  stands : (kind : Kind) → ((reached c).before.may-or.result ≡ true) ↔ MayOR kind → Term kind
+  stands : (kind : Kind) → (c.may_or-or.result ≡ true) ↔ MayOR kind → Term kind
   stands kind m =
       let none = not-then-false c.joins.ensures c.if-joins.false in
       c.term_part-part.ensures kind ((λ e. none (inl e)), λ e may. none (inr (e, m.1 may)))
 
-  there : Term (called c).args.kind
-  there = stands (called c).args.kind (reached c).before.may-or.ensures
+  there : Term c.args.kind
+  there = stands c.args.kind c.may_or-or.ensures
 
-  short : c.term_part-part.result.good ≤ length (called c).args.b.now - (reached c).loop.at
-  short = subst (λ (x : ℕ). c.term_part-part.result.good ≤ x) (from-length (called c).args.b.now (reached c).loop.at) there.within
+  short : c.term_part-part.result.good ≤ length c.args.b.now - c.loop-at.at
+  short = subst (λ (x : ℕ). c.term_part-part.result.good ≤ x) (from-length c.args.b.now c.loop-at.at) there.within
 
 -- what is to follow where the loop has come to
-abbrev follows : (l : At-loop-at) → Start
-follows l = (goal.at.@NEED@ l).Start
-
-due-at : (l : At-loop-at)
-    → At (follows l).args.kind (follows l).args.n (follows l).args.depth.0 (follows l).args.b.now l.loop-at.due l.loop-at.at
-due-at l = l.loop-at.invariant (follows l).args.kind l.may_or-or.ensures
+due-at : (c : At-loop-at) → At c.args.kind c.args.n c.args.depth.0 c.args.b.now c.loop-at.due c.loop-at.at
+due-at c = c.loop-at.invariant c.args.kind c.may_or-or.ensures
 
 pub returns-then-b-eq0 : goal.returns-then-b-eq0
 returns-then-b-eq0 c = inl (nil-of _ c.if-b-eq0.true)
@@ -57,19 +46,17 @@ loop-at-init c = λ kind m. at-start kind _ _ _
 
 pub returns-then-due-eq0 : goal.returns-then-due-eq0
 returns-then-due-eq0 c =
-    (c.loop-at-test.true, at-over _ _ _ (due-at (goal.at.returns-then-due-eq0 c).At-loop-at) (follows (goal.at.returns-then-due-eq0 c).At-loop-at).requires c.if-due-eq0.true c.loop-at-test.true)
+    let due = due-at (goal.at.returns-then-due-eq0 c).At-loop-at in
+    (c.loop-at-test.true, at-over _ _ _ due c.requires c.if-due-eq0.true c.loop-at-test.true)
 
 pub bounds-rest-0 : goal.bounds-rest-0
-bounds-rest-0 c =
-    omega (arith, from-length (follows (goal.at.bounds-rest-0 c).At-loop-at).args.b.now c.loop-at.at)
+bounds-rest-0 c = omega (arith, from-length c.args.b.now c.loop-at.at)
 
 pub overflow_add-due : goal.overflow_add-due
-overflow_add-due c =
-    omega (arith, (due-at (goal.at.overflow_add-due c).At-loop-at).few, (follows (goal.at.overflow_add-due c).At-loop-at).well_formed)
+overflow_add-due c = omega (arith, (due-at (goal.at.overflow_add-due c).At-loop-at).few, c.well_formed)
 
 pub overflow_add-at : goal.overflow_add-at
-overflow_add-at c =
-    omega (arith, (follows (goal.at.overflow_add-at c).At-loop-at).well_formed)
+overflow_add-at c = omega (arith, c.well_formed)
 
 pub loop-at-preserved-then-joins : goal.loop-at-preserved-then-joins
 loop-at-preserved-then-joins c = λ kind m.
@@ -77,29 +64,33 @@ loop-at-preserved-then-joins c = λ kind m.
     (⊎_elim inl (λ w. inr (w.0, m.0 w.1)) (c.joins.ensures.0 c.if-joins.true))
 
 pub term_part-part-requires : goal.term_part-part-requires
-term_part-part-requires c =
-    ((follows (goal.at.term_part-part-requires c).At-loop-at).requires, omega (arith, from-length (follows (goal.at.term_part-part-requires c).At-loop-at).args.b.now c.loop-at.at))
+term_part-part-requires c = (c.requires, omega (arith, from-length c.args.b.now c.loop-at.at))
 
 pub overflow_add-at-then-not-part : goal.overflow_add-at-then-not-part
-overflow_add-at-then-not-part c = let t = (goal.at.overflow_add-at-then-not-part c).After-term_part-part in omega (arith, short t, (called t).well_formed)
+overflow_add-at-then-not-part c = omega (arith, short (goal.at.overflow_add-at-then-not-part c).After-term_part-part, c.well_formed)
 
 pub returns-then-not-part : goal.returns-then-not-part
 returns-then-not-part c =
-    let f = at-stuck _ _ _ (due-at (reached (goal.at.returns-then-not-part c).After-term_part-part)) (omega arith) (there (goal.at.returns-then-not-part c).After-term_part-part) (omega arith) c.if-not-part.true in
+    let at = goal.at.returns-then-not-part c in
+    let f = at-stuck _ _ _ (due-at at.At-loop-at) (omega arith) (there at.After-term_part-part) (omega arith) (not-true _ c.if-not-part.true) in
     finds-stopped _ _ _ f c.stopped.ensures
 
 pub overflow_add-at-else-joins : goal.overflow_add-at-else-joins
-overflow_add-at-else-joins c = let t = (goal.at.overflow_add-at-else-joins c).After-term_part-part in omega (arith, short t, (called t).well_formed)
+overflow_add-at-else-joins c = omega (arith, short (goal.at.overflow_add-at-else-joins c).After-term_part-part, c.well_formed)
 
 pub loop-at-smaller : goal.loop-at-smaller
-loop-at-smaller c = let t = (goal.at.loop-at-smaller c).After-term_part-part in omega (arith, short t, (there t).some c.if-not-part.false)
+loop-at-smaller c =
+    let t = (goal.at.loop-at-smaller c).After-term_part-part in
+    omega (arith, short t, (there t).some (not-false _ c.if-not-part.false))
 
 pub loop-at-preserved : goal.loop-at-preserved
 loop-at-preserved c = λ kind m.
-    at-term kind _ _ ((reached (goal.at.loop-at-preserved c).After-term_part-part).loop.invariant kind m) (omega arith) (stands (goal.at.loop-at-preserved c).After-term_part-part kind m) c.if-not-part.false
+    let t = (goal.at.loop-at-preserved c).After-term_part-part in
+    at-term kind _ _ (c.loop-at.invariant kind m) (omega arith) (stands t kind m) (not-false _ c.if-not-part.false)
 
 pub returns-then-due-eq0-2 : goal.returns-then-due-eq0-2
-returns-then-due-eq0-2 c = inr (at-whole _ _ _ (due-at (goal.at.returns-then-due-eq0-2 c).At-loop-at) (omega arith) c.if-due-eq0-2.true)
+returns-then-due-eq0-2 c =
+    inr (at-whole _ _ _ (due-at (goal.at.returns-then-due-eq0-2 c).At-loop-at) (omega arith) c.if-due-eq0-2.true)
 
 pub returns : goal.returns
-returns c = let l = (goal.at.returns c).At-loop-at in at-short _ _ _ (due-at l) (follows l).requires (omega arith) (omega arith) (omega arith)
+returns c = at-short _ _ _ (due-at (goal.at.returns c).At-loop-at) c.requires (omega arith) (omega arith) (omega arith)
