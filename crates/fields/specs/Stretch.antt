@@ -69,7 +69,7 @@ module _ (m : ℕ) (J : Judging m) (refusal : Refusal) where
 -- all there, they are good, or wrong together
 pub together-all : (m : ℕ) (t : Test (List ℕ)) (l : List ℕ) → length l ≡ m → Dec (t.holds l) → t.holds l ⊎ ((k : ℕ) × WrongTogether m t l k)
 together-all m t l e (yes h) = inl h
-together-all m t l e (no h) = inr (0, (e, h, refl))
+together-all m t l e (no h) = inr (_, (e, h, refl))
 
 -- two tests at once
 pub both-decided : {P Q : Type 0} → Dec P → Dec Q → Dec (P × Q)
