@@ -1,8 +1,6 @@
 -- `print_front` meets its contract: a term is printed, and an operator stands between the prints of its operands. Assumes nothing.
-use mathlib.Core.Path.{◌∙◌}
-use Prim.Native.Nat.{◌+◌, ◌≤◌}
+use Prim.Native.Nat.{◌+◌}
 use native.Mathlib.Omega.{arith}
-use lib.ListN.{get_or}
 use Rattle.expression.specs.Scan.{from-length}
 use Rattle.print.proofs.Fronts.{some-ahead, term-ahead, prints-term, open-room, two_bytes, left-ahead, left-within, sign-room}
 use Rattle.print.proofs.Fronts.{right-ahead, right-within, close-room, prints-operator}

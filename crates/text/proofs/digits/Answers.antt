@@ -1,7 +1,6 @@
 -- `digits` meets its contract: the scan is within the number that was counted. The measure is what is left of the text. Assumes nothing.
 use native.Mathlib.Omega.{arith}
 use mathlib.Core.Path.{refl}
-use Prim.Native.Nat.{◌-◌}
 use Rattle.text.proofs.Laws.{class-in, count-first, grow-in, grow-digit, count-more, count-end}
 use Rattle.text.proofs.digits.Goals as goal
 

@@ -1,6 +1,5 @@
 -- `skip` meets its contract: all that was passed is spaces. The measure is what is left of the text. Assumes nothing.
 use native.Mathlib.Omega.{arith}
-use Prim.Native.Nat.{◌-◌}
 use Rattle.text.proofs.Laws.{skip-start, skip-in, skip-more, skip-end}
 use Rattle.text.proofs.skip.Goals as goal
 
