@@ -27,7 +27,8 @@ is_one : {bs : List ℕ} (x : Term) (tail : List ℕ) → bs ≡ bytes (term x) 
 is_one (one s) tail e c = ap one (sym (byte 1 e))
 is_one (range s i j) tail e c = absurd (omega (arith, byte 0 e))
 
-is-range : {bs : List ℕ} (x : Term) (tail : List ℕ) → bs ≡ bytes (term x) ++ tail → (get_or bs 0 0 ≡ 1 → ⊥) → x ≡ range (get_or bs 1 0) (get_or bs 2 0) (get_or bs 3 0)
+is-range : {bs : List ℕ} (x : Term) (tail : List ℕ) → bs ≡ bytes (term x) ++ tail → (get_or bs 0 0 ≡ 1 → ⊥)
+    → x ≡ range (get_or bs 1 0) (get_or bs 2 0) (get_or bs 3 0)
 is-range (one s) tail e c = absurd (c (byte 0 e))
 is-range (range s i j) tail e c = let p = byte 1 e in let q = byte 2 e in let r = byte 3 e in cc
 

@@ -72,7 +72,8 @@ module _ (s : List ℕ) where
   -- a sign that does not stand there stops the scan
   pub at-stop : (ok : Bool) (k c : ℕ) (t t' : State) → (ok && class_at s k c) ≡ false
       → (ok ≡ true → Needs s k c t t') → Reaches s k (pick ok (some t) none) → Reaches s k none
-  at-stop true k c t t' e n r = like k (some t) none (λ h. (n refl).byte h ∙ ap (λ (b : Bool). pick b (some t') none) (class-not k c h e)) (λ h. (n refl).end h) r
+  at-stop true k c t t' e n r =
+      like k (some t) none (λ h. (n refl).byte h ∙ ap (λ (b : Bool). pick b (some t') none) (class-not k c h e)) (λ h. (n refl).end h) r
   at-stop false k c t t' e n r = r
 
   -- one that stands there takes it on

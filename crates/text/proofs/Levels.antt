@@ -279,15 +279,6 @@ module _ (s : List ℕ) where
       holds = λ x v f h. R.holds (some (or-to x (A.e none))) v f (D.holds v (bytes (or-to x (A.e none))) f (C.holds _ (with-left-or x v h)));
     }
 
-  -- how far a level has come where its sign stands
-  pub further : (a : Reading) (c : ℕ) (b : Bool) → b ≡ stands_at s a c → b ≡ true → (r : Reading) → Signed s a c r → (a.at < r.at) × (r.at ≤ length s)
-  further a c b eb y r C = (C.past (sym eb ∙ y), C.on.good.within)
-
-  -- and after what was inserted there
-  pub onward : (g a : Reading) → On s g a → (c : ℕ) (b : Bool) → b ≡ stands_at s a c → b ≡ true
-      → (r : Reading) → Signed s a c r → (d : Reading) → Beside r d → (g.at < d.at) × Good s d
-  onward g a A c b eb y r C d B = (omega (arith, A.on, C.past (sym eb ∙ y), B.at), beside-good B C.on.good)
-
   -- ---- a whole text
   space-at : {s : List ℕ} → Tokens [] s → (k : ℕ) → k < length s → class_of (get_or s k 0) ≡ space
   space-at end k h = absurd (omega arith)

@@ -89,7 +89,8 @@ module _ (n start x : ℕ) (b r : List ℕ) (l : length b ≡ 48) (u : n < 48) (
       let g : length v + suc t ≡ j = omega (arith, seam) in
       get_or-set_other r start j x 0 (λ e. omega arith) ∙ ap (λ (z : ℕ). get_or r z 0) (sym e) ∙ m.above (j - 1) (omega arith) (omega arith)
       ∙ old (j - 1) (omega arith)
-      ∙ ap (λ (z : ℕ). get_or (v ++ w) z 0) i ∙ get_or-append-add v w t 0 ∙ sym (get_or-append-add v (x ∷ w) (suc t) 0) ∙ ap (λ (z : ℕ). get_or (v ++ (x ∷ w)) z 0) g
+      ∙ ap (λ (z : ℕ). get_or (v ++ w) z 0) i ∙ get_or-append-add v w t 0 ∙ sym (get_or-append-add v (x ∷ w) (suc t) 0)
+      ∙ ap (λ (z : ℕ). get_or (v ++ (x ∷ w)) z 0) g
   each j h (no q) (no p) =
       let e : j ≡ start = omega arith in
       ap (λ (z : ℕ). get_or (set r start x) z 0) e ∙ get_or-set_same r start x 0 (omega (arith, m.long)) ∙ sym (get_or_at v x w 0 j (omega (arith, seam)))

@@ -7,4 +7,4 @@ print_seen-requires c =
 
 pub returns : goal.returns
 returns c =
-    (c.print_seen.ensures.0 _ _ _ c.examine-seen.ensures, c.print_seen.ensures.1)
+    record { decides = c.print_seen.ensures.of_each _ _ _ c.examine-seen.ensures; leaves = c.print_seen.ensures.leaves }

@@ -11,7 +11,7 @@ returns-then-not-granted c =
     let once = d w.0 w.1.0 w.1.1.0 w.1.1.1 in
     let i = c.granted.ensures in
     let n = c.if-not-granted.true in
-    ((λ slot file s v. (print-refused s x o _ (d slot file s v) i n).0), (print-refused w.1.1.0 x o _ once i n).1)
+    record { of_each = λ slot file s v. (print-refused s x o _ (d slot file s v) i n).0; leaves = (print-refused w.1.1.0 x o _ once i n).1 }
 
 pub returns-then-x-eq0 : goal.returns-then-x-eq0
 returns-then-x-eq0 c =
@@ -22,7 +22,7 @@ returns-then-x-eq0 c =
     let once = d w.0 w.1.0 w.1.1.0 w.1.1.1 in
     let g = c.granted.ensures.0 c.if-not-granted.false in
     let e = c.if-x-eq0.true in
-    ((λ slot file s v. (print-empty s x o _ (d slot file s v) g e).0), (print-empty w.1.1.0 x o _ once g e).1)
+    record { of_each = λ slot file s v. (print-empty s x o _ (d slot file s v) g e).0; leaves = (print-empty w.1.1.0 x o _ once g e).1 }
 
 pub print_front-printed-requires : goal.print_front-printed-requires
 print_front-printed-requires c =
@@ -44,4 +44,4 @@ returns c =
     let f = c.if-x-eq0.false in
     let p = c.print_front-printed.ensures in
     let i = c.at.ensures in
-    ((λ slot file s v. (print-done s x o _ (d slot file s v) g f p i).0), (print-done w.1.1.0 x o _ once g f p i).1)
+    record { of_each = λ slot file s v. (print-done s x o _ (d slot file s v) g f p i).0; leaves = (print-done w.1.1.0 x o _ once g f p i).1 }

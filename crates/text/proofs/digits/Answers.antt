@@ -1,22 +1,21 @@
 -- `digits` meets its contract: the scan is within the number that was counted. The measure is what is left of the text. Assumes nothing.
 use native.Mathlib.Omega.{arith}
 use mathlib.Core.Path.{refl}
-use Prim.Native.Nat.{◌-◌}
 use Rattle.text.proofs.Laws.{class-in, count-first, grow-in, grow-digit, count-more, count-end}
 use Rattle.text.proofs.digits.Goals as goal
 
 pub digit-n-requires : goal.digit-n-requires
-digit-n-requires c = c.requires.0
+digit-n-requires c = c.requires.at_value
 
 pub overflow_add-p : goal.overflow_add-p
-overflow_add-p c = omega (arith, class-in c.args.s.now c.args.at 0 c.requires.0)
+overflow_add-p c = omega (arith, class-in c.args.s.now c.args.at 0 c.requires.at_value)
 
 pub loop-n-init : goal.loop-n-init
 loop-n-init c =
-    count-first c.args.s.now c.args.at c.requires.0 _ c.digit-n.ensures
+    count-first c.args.s.now c.args.at c.requires.at_value _ c.digit-n.ensures
 
 pub grows-requires : goal.grows-requires
-grows-requires c = (c.loop-n.invariant.small, c.requires.1)
+grows-requires c = record { n_lt_below = c.loop-n.invariant.small; tabled = c.requires.tabled }
 
 pub overflow_mul-n : goal.overflow_mul-n
 overflow_mul-n c = omega (arith, c.loop-n.invariant.small)

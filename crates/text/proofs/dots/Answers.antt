@@ -6,11 +6,11 @@ use Rattle.text.proofs.dots.Goals as goal
 
 pub sign-requires : goal.sign-requires
 sign-requires c =
-    let h = stands-in c.args.s.now c.args.g _ _ c.stands.ensures c.if-stands.true in (omega arith, c.requires.1)
+    let h = stands-in c.args.s.now c.args.g _ _ c.stands.ensures c.if-stands.true in record { at_in_bounds = omega arith; tabled = c.requires.tabled }
 
 pub returns-then-stands : goal.returns-then-stands
 returns-then-stands c =
-    dots-on _ _ c.requires.0 _ c.stands.ensures c.if-stands.true _ c.sign.ensures
+    dots-on _ _ c.requires.good _ c.stands.ensures c.if-stands.true _ c.sign.ensures
 
 pub returns : goal.returns
-returns c = dots-not _ _ c.requires.0 _ c.stands.ensures c.if-stands.false
+returns c = dots-not _ _ c.requires.good _ c.stands.ensures c.if-stands.false

@@ -1,5 +1,4 @@
 -- `moved` meets its contract: the places above i hold what stood one below. Assumes nothing.
-use mathlib.Core.Path.{◌≡◌}
 use Rattle.text.proofs.Shelf.{Moving}
 use Rattle.text.proofs.moved.Given as goal
 

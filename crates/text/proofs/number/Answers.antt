@@ -5,7 +5,7 @@ use Rattle.text.proofs.number.Goals as goal
 
 pub digits-k-requires : goal.digits-k-requires
 digits-k-requires c =
-    (stands-class c.args.s.now c.args.g 0 _ c.stands.ensures c.if-stands.true, c.requires.1)
+    record { at_value = stands-class c.args.s.now c.args.g 0 _ c.stands.ensures c.if-stands.true; tabled = c.requires.tabled }
 
 pub returns-then-stands : goal.returns-then-stands
 returns-then-stands c =
@@ -14,4 +14,4 @@ returns-then-stands c =
 
 pub returns : goal.returns
 returns c =
-    num-not c.args.s.now c.args.g _ c.stands.ensures c.if-stands.false c.requires.0
+    num-not c.args.s.now c.args.g _ c.stands.ensures c.if-stands.false c.requires.at_in_bounds

@@ -4,5 +4,5 @@ use Rattle.text.proofs.range.Goals as goal
 
 pub returns : goal.returns
 returns c =
-    ranged _ _ c.requires.0.1 _ c.sign-a.ensures _ c.number-b.ensures _ c.dots-c.ensures _ c.number-d.ensures _
+    ranged _ _ c.requires.good.1 _ c.sign-a.ensures _ c.number-b.ensures _ c.dots-c.ensures _ c.number-d.ensures _
     c.sign.ensures

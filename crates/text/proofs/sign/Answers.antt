@@ -6,10 +6,10 @@ use Rattle.text.proofs.sign.Goals as goal
 
 pub skip-requires : goal.skip-requires
 skip-requires c =
-    let h = stands-in c.args.s.now c.args.g _ _ c.stands.ensures c.if-stands.true in (omega arith, c.requires.1)
+    let h = stands-in c.args.s.now c.args.g _ _ c.stands.ensures c.if-stands.true in record { at_in_bounds = omega arith; tabled = c.requires.tabled }
 
 pub returns-then-stands : goal.returns-then-stands
 returns-then-stands c = sign-past _ _ _ _ c.stands.ensures c.if-stands.true _ c.skip.ensures
 
 pub returns : goal.returns
-returns c = sign-not _ _ _ _ c.stands.ensures c.if-stands.false c.requires.0
+returns c = sign-not _ _ _ _ c.stands.ensures c.if-stands.false c.requires.at_in_bounds

@@ -20,6 +20,6 @@ listed f zero i k h = absurd (omega arith)
 listed f (suc n) i zero h = ap f (omega arith)
 listed f (suc n) i (suc k) h = listed f n (suc i) k (omega arith) ∙ ap f (omega arith)
 
--- LEFT: returns : tie.Need-returns
--- LEFT: unfolding from class_of
--- LEFT: returns c = record { long = refl; each = λ x h. listed class_of 256 0 x h ∙ ap class_of (zero-add x) }
+pub returns : goal.returns
+unfolding from class_of
+returns c = record { long = refl; each = λ x h. listed class_of 256 0 x h ∙ ap class_of (zero-add x) }
