@@ -107,11 +107,6 @@ module _ (m : ℕ) {A : Type 0} (make : List ℕ → A) (t : Test A) (refusal : 
       let (x, r, e, u, i) = stretch-good m (together m (made make t)) refusal bs a h g in
       (x, r, e, (x, [], there, sym (append-nil x), u, (refl, refl)), i)
 
-  pub value-bad : (v : A) → a + m ≤ length bs → (t.holds (make there) → ⊥) → Comes (valued m make t refusal) bs a (Refused refusal.number a) v
-  value-bad v h g =
-      let l : length there ≡ m = length-take-le m (drop a bs) (omega (arith, h, length-drop a bs)) in
-      (0, inl (inl ((l, g, refl), refl)), omega arith)
-
   pub value-missing : (v : A) → a ≤ length bs → length bs < a + m → Comes (valued m make t refusal) bs a (Refused ends_early (length bs)) v
   value-missing v h l =
       let (j, f, i) = stretch-early m (together m (made make t)) refusal bs a [] h l (λ j w. omega (arith, w.0, l, length-drop a bs)) in
@@ -137,11 +132,11 @@ word-there bs a =
     omega (arith, low, high)
 
 -- what is refused is not read
-not-read : {n k a : ℕ} → Refused n k ≡ Read a → ⊥
+pub not-read : {n k a : ℕ} → Refused n k ≡ Read a → ⊥
 not-read e = let o : ◌≡◌ {A = ℕ} 0 1 = cc in omega arith
 
 -- how a number of m bytes is read: it is not met, not all there, out of its range, or in it
-abbrev ranged : (m : ℕ) (make : List ℕ → ℕ) (low high number : ℕ) → Number number → Format ℕ
+abbrev pub ranged : (m : ℕ) (make : List ℕ → ℕ) (low high number : ℕ) → Number number → Format ℕ
 ranged m make low high number d = valued m make (between low high) (record { number = number; listed = d })
 
 module _ (m : ℕ) (make : List ℕ → ℕ) (bs : List ℕ) {from : Met} (low high number : ℕ) (fit : low ≤ high) where
@@ -169,18 +164,6 @@ module _ (m : ℕ) (make : List ℕ → ℕ) (stands : List ℕ → ℕ → ℕ)
   where
     same : v ≡ make (take m (drop a bs))
     same = is ∙ sym (there bs a)
-
-    pub number-out : low ≤ high → ((between low high).holds v → ⊥)
-        → NumberRead (valued m make) bs from low high number (record { met = Refused number a; value = low })
-    number-out fit w = record {
-      reads = λ d.
-          let refusal : Refusal = record { number = number; listed = d } in
-          let bad = value-bad m make (between low high) refusal bs a low all (λ g. w (subst (between low high).holds (sym same) g)) in
-          reads_at (ranged m make low high number d) bs (Refused number a) low e (λ _. bad);
-      least = omega arith;
-      most = fit;
-      within = λ b f. absurd (not-read f);
-    }
 
     pub number_in : low ≤ v → v ≤ high → NumberRead (valued m make) bs from low high number (record { met = Read (a + m); value = v })
     number_in f g = record {

@@ -1,7 +1,8 @@
 -- `fields::read_byte` meets its contract: the byte is not met, missing, below, above, or in its range. Assumes nothing.
 use native.Mathlib.Omega.{arith}
 use Rattle.fields.specs.Parts.{first}
-use Rattle.fields.specs.Readings.{byte_at, byte-there, number-stays, number-early, number-out, number_in}
+use Rattle.fields.specs.Readings.{byte_at, byte-there, number-stays, number-early, number_in}
+use Rattle.fields.proofs.OutOfRange.{number-out}
 use Rattle.fields.proofs.read_byte.Goals as goal
 
 pub returns-in_default : goal.returns-in_default

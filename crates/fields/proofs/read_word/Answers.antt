@@ -1,7 +1,8 @@
 -- `fields::read_word` meets its contract: the number is not met, not all there, below, above, or in its range. Assumes nothing.
 use native.Mathlib.Omega.{arith}
 use Rattle.fields.specs.Parts.{first_two}
-use Rattle.fields.specs.Readings.{word_at, word-there, number-stays, number-early, number-out, number_in}
+use Rattle.fields.specs.Readings.{word_at, word-there, number-stays, number-early, number_in}
+use Rattle.fields.proofs.OutOfRange.{number-out}
 use Rattle.fields.proofs.read_word.Goals as goal
 
 pub returns-in_default : goal.returns-in_default
