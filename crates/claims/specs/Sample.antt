@@ -10,7 +10,8 @@ use Rattle.expression.specs.Bytes.{InOrder}
 use Rattle.policy.specs.declared.Role.{Role}
 use Rattle.policy.specs.declared.File.{File}
 use Rattle.policy.specs.declared.State.{State}
-use Rattle.policy.specs.State.{Free, By, read, write, execute, change_protection, fresh_state, with_hold, with_e_g, hold_of, role_at, file_at, role_part, file_part}
+use Rattle.policy.specs.State.{Free, By, read, write, execute, change_protection, fresh_state, with_hold, with_e_g, hold_of, role_at, file_at, role_part}
+use Rattle.policy.specs.State.{file_part}
 use Rattle.policy.specs.State.{v_plus_place, v_minus_place, m1_place, m2_place, b_place, t1_place, e_place, t2_place, g_place}
 use Rattle.shelf.specs.Shelf.{put_bytes, padded}
 use Rattle.policy.specs.WellFormed.{WellFormed}

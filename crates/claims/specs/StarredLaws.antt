@@ -8,7 +8,7 @@ use Rattle.expression.specs.Scan.{bytes-some}
 use Rattle.expression.specs.Unique.{one-expression}
 use Rattle.expression.specs.Starred.{park, Case, cases}
 use Rattle.expression.specs.Starred as expression-starred
-use Rattle.expression.specs.StarredLaws.{starred}
+use Rattle.expression.proofs.StarredLaws.{starred}
 use Rattle.rules.specs.Rules.{PassesRow}
 use Rattle.rules.specs.Laws.{write-fits}
 use Rattle.claims.specs.Starred.{Starred, meaning, asked, asks, table, AllMean, one_three, one_alone}

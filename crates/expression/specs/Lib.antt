@@ -6,7 +6,5 @@ pub mod Scan
 pub mod Unique
 pub mod One
 pub mod Fronts
-pub mod Decide
 pub mod Starred
-pub mod StarredLaws
 pub mod Total

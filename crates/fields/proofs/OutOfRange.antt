@@ -1,4 +1,5 @@
--- What the reading of a value that is all there and not in order comes to, and of a number out of its range: the place of a refusal is where its bytes begin. Assumes nothing.
+-- What the reading of a value that is all there and not in order comes to, and of a number out of its range: the place of a refusal is where its bytes
+-- begin. Assumes nothing.
 use Rattle.std.specs.Prelude.{◌≡◌, ℕ, ◌+◌, ◌≤◌, take, drop}
 use Rattle.std.proofs.Math.Path.{refl, subst}
 use Rattle.std.proofs.Common.{sym, ◌∙◌, arith, length-drop, length-take-le}

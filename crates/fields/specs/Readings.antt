@@ -1,7 +1,8 @@
 -- How readings follow one another, what the reading of a stretch comes to, and what a reading of all the bytes says of the document. Assumes nothing.
 use Rattle.std.specs.Prelude.{◌≡◌, ◌⊎◌, ◌↔◌, ℕ, ◌+◌, ◌-◌, ◌<◌, ◌≤◌, take, drop, get_or}
 use Rattle.std.proofs.Math.Path.{refl, ap, subst}
-use Rattle.std.proofs.Common.{sym, ◌∙◌, add-one, arith, length-drop, take-append-drop, drop_of_length-le, drop-drop, take_all, length-take-le, get_or-take, get_or-drop}
+use Rattle.std.proofs.Common.{sym, ◌∙◌, add-one, arith, length-drop, take-append-drop, drop_of_length-le, drop-drop, take_all, length-take-le, get_or-take}
+use Rattle.std.proofs.Common.{get_or-drop}
 use mathlib.Core.List.{List, [], ◌∷◌, ◌++◌, append-nil, append_assoc}
 use Rattle.std.proofs.Math.Logic.{inl, inr}
 use Rattle.std.proofs.Math.ListN.{length, length-append}

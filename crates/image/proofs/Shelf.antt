@@ -43,7 +43,8 @@ put-set [] short k h x = absurd (omega arith)
 put-set (y ∷ xs) short zero h x =
     let l = length-padded y (short 0 (omega arith)) in
     let e : longest * 0 + longest ≡ length (padded y) + 0 = omega (arith, l) in
-    ap (λ (i : ℕ). padded x ++ drop i (padded y ++ flat_map padded xs)) e ∙ ap (λ (r : List ℕ). padded x ++ r) (drop-append-add (padded y) (flat_map padded xs) 0)
+    ap (λ (i : ℕ). padded x ++ drop i (padded y ++ flat_map padded xs)) e
+    ∙ ap (λ (r : List ℕ). padded x ++ r) (drop-append-add (padded y) (flat_map padded xs) 0)
 put-set (y ∷ xs) short (suc k) h x =
     let l = length-padded y (short 0 (omega arith)) in
     let rest = flat_map padded xs in

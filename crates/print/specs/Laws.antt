@@ -48,20 +48,22 @@ one-print-of {x} {p} {q} v w = go (cases v) (cases w)
 one-length : (x : List ℕ) → AtMostOne (print_grants x)
 one-length x i j (p, v, h) (q, w, k) = h ∙ ap length (one-print-of v w) ∙ sym k
 
-one-content : (x before : List ℕ) → AtMostOne (print_makes x before)
-one-content x before y z (p, v, h) (q, w, k) = h ∙ ap (λ (l : List ℕ). l ++ drop (length l) before) (one-print-of v w) ∙ sym k
-
 pub print-places : (s : State) (x : List ℕ) (room : ℕ) → OnePlaceEach (print_conditions s x room)
 print-places s x room = (said 0, (one-in-order Protection s.tree 0 x, (said 0, tt)))
 
 pub one-print-answer : (s : State) (x : List ℕ) (room : ℕ) (a b : Answer)
     → Decides (print_conditions s x room) (print_grants x) a
     → Decides (print_conditions s x room) (print_grants x) b → a ≡ b
-one-print-answer s x room = one_answer (print_conditions s x room) (print_grants x) (print-places s x room) (one-length x)
+one-print-answer s x room =
+    let places : OnePlaceEach (print_conditions s x room) = (said 0, (one-in-order Protection s.tree 0 x, (said 0, tt))) in
+    one_answer (print_conditions s x room) (print_grants x) places (one-length x)
 
 pub one-print-output : (x : List ℕ) (a : Answer) (before y z : List ℕ)
     → Leaves a (print_makes x before) before y → Leaves a (print_makes x before) before z → y ≡ z
-one-print-output x a before = one_left a (print_makes x before) (one-content x before) before
+one-print-output x a before = one_left a (print_makes x before) one-content before
+  where
+    one-content : AtMostOne (print_makes x before)
+    one-content y z (p, v, h) (q, w, k) = h ∙ ap (λ (l : List ℕ). l ++ drop (length l) before) (one-print-of v w) ∙ sym k
 
 -- ---- numbers of a tree have at most two digits
 level-below : {p : List ℕ} {n : ℕ} → SmallerBelow p n → {u k : ℕ} → u < n → HasLevel p u k → k ≤ u

@@ -1,6 +1,7 @@
 -- One reading; a record stays one whatever follows; how long one can be. Assumes nothing.
 use Rattle.std.specs.Prelude.{◌≡◌, refl, cond, ℕ, suc, ◌+◌, ◌<◌, ◌≤◌, length, get_or, take, drop, eqb}
-use Rattle.std.proofs.Common.{sym, ap, ap₂, ◌∙◌, subst, inl, inr, arith, length-append, length-drop, take-append-drop, take_at, drop_at, length-take-le, get_or-drop}
+use Rattle.std.proofs.Common.{sym, ap, ap₂, ◌∙◌, subst, inl, inr, arith, length-append, length-drop, take-append-drop, take_at, drop_at, length-take-le}
+use Rattle.std.proofs.Common.{get_or-drop}
 use mathlib.Core.List.{List, [], ◌∷◌, ◌++◌, map, append_assoc, head-eq_of_cons-eq, tail-eq_of_cons-eq}
 use Rattle.records.specs.declared.Parted.{Parted}
 use Rattle.records.specs.Records.{Shape, Byte, Short, Long, Quad, Listed, code-01, code-02, code-03, code-04, code-05, code-06, code-10}

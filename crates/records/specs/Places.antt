@@ -1,6 +1,7 @@
 -- What stands at the places of a record's fields are the fields. Assumes nothing.
 use Rattle.std.specs.Prelude.{◌≡◌, refl, true, false, ℕ, zero, suc, ◌+◌, ◌-◌, ◌<◌, ◌≤◌, length, get_or, take, drop, set, replicate}
-use Rattle.std.proofs.Common.{sym, ap, ap₂, ◌∙◌, subst, true≢false, inl, inr, arith, add-one, length-append, length-drop, drop_of_length-le, drop-drop, drop-cons, get_or-drop, get_or-take, length-take-le}
+use Rattle.std.proofs.Common.{sym, ap, ap₂, ◌∙◌, subst, true≢false, inl, inr, arith, add-one, length-append, length-drop, drop_of_length-le, drop-drop}
+use Rattle.std.proofs.Common.{drop-cons, get_or-drop, get_or-take, length-take-le}
 use mathlib.Core.List.{List, [], ◌∷◌, ◌++◌, append-nil, append_assoc, head-eq_of_cons-eq, tail-eq_of_cons-eq}
 use Rattle.std.proofs.lemmas.List.{length-map, set_at}
 use Rattle.std.proofs.Math.ListN.{get_or-map}

@@ -1,6 +1,7 @@
 -- The laws of marks, once over any number of them, and of sets with the same members. Assumes nothing.
 use Rattle.std.specs.Prelude.{◌≡◌, refl, Bool, true, false, List, [], ◌∷◌, ◌⊎◌, ◌↔◌, ℕ, zero, suc, ◌+◌, ◌<◌, ◌≤◌, length, get_or, set, replicate}
-use Rattle.std.proofs.Common.{sym, ◌∙◌, subst, inl, inr, ⊎_elim, suc-le-suc, zero-lt-suc, not-suc-le-zero, arith, length-set, get_or-set_same, get_or-set_other, ext_get_or}
+use Rattle.std.proofs.Common.{sym, ◌∙◌, subst, inl, inr, ⊎_elim, suc-le-suc, zero-lt-suc, not-suc-le-zero, arith, length-set, get_or-set_same, get_or-set_other}
+use Rattle.std.proofs.Common.{ext_get_or}
 use Rattle.std.proofs.lemmas.Bool.{false≢true}
 use Rattle.std.proofs.Math.Decide.{ℕ_discrete}
 use Rattle.securon.specs.Sets.{Set, only, ◌∪◌, ◌⊆◌, ◌≐◌, Apart, marked}

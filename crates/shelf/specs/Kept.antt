@@ -66,7 +66,8 @@ module _ {places : ℕ} {lens bytes : List ℕ} (p : HasPlaces places lens bytes
   pub put-here : stored_at (set lens k (length x)) (put_bytes bytes k x) k ≡ x
   put-here = stored-put bytes k x hx (omega (arith, p.room)) lens (omega (arith, p.lengths))
 
-  pub put-there : (j : ℕ) → j < places → (j ≡ k → ⊥) → get_or lens j 0 ≤ longest → stored_at (set lens k (length x)) (put_bytes bytes k x) j ≡ stored_at lens bytes j
+  pub put-there : (j : ℕ) → j < places → (j ≡ k → ⊥) → get_or lens j 0 ≤ longest
+      → stored_at (set lens k (length x)) (put_bytes bytes k x) j ≡ stored_at lens bytes j
   put-there j m n short = stored_other bytes k x hx (omega (arith, p.room)) lens j n short (omega (arith, p.room))
 
 -- a shelf of zeros is fine: every expression has length 0

@@ -158,8 +158,9 @@ module _ (b : List ℕ) (k : ℕ) (x : List ℕ) (hx : length x ≤ longest) (hb
       pub stored_other : stored_at (set lens k (length x)) (put_bytes b k x) j ≡ stored_at lens b j
       stored_other =
           let e : longest * j + 0 ≡ longest * j = omega arith in
+          let n = get_or lens j 0 in
           ap (λ (m : ℕ). take m (drop (longest * j) (put_bytes b k x))) same_length
-          ∙ subst (λ (q : ℕ). take (get_or lens j 0) (drop q (put_bytes b k x)) ≡ take (get_or lens j 0) (drop q b)) e (same-part 0 (get_or lens j 0) (omega arith))
+          ∙ subst (λ (q : ℕ). take n (drop q (put_bytes b k x)) ≡ take n (drop q b)) e (same-part 0 n (omega arith))
 
       -- and what is past it
       pub past-other : room_past (set lens k (length x)) (put_bytes b k x) j ≡ room_past lens b j

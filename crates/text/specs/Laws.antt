@@ -32,7 +32,8 @@ pub one-text-answer : (s : List ℕ) (room : ℕ) (a b : Answer)
 one-text-answer s room = one_answer (text_conditions s room) (text_grants s) (text-places s room) (one-count s)
 
 -- and one content of the output after it
-pub one-text-output : (s : List ℕ) (a : Answer) (before x y : List ℕ) → Leaves a (text_makes s before) before x → Leaves a (text_makes s before) before y → x ≡ y
+pub one-text-output : (s : List ℕ) (a : Answer) (before x y : List ℕ)
+    → Leaves a (text_makes s before) before x → Leaves a (text_makes s before) before y → x ≡ y
 one-text-output s a before = one_left a (text_makes s before) (one-output s before) before
 
 -- a text's first 513 bytes decide: whoever keeps no more of it has its answer

@@ -1,6 +1,7 @@
 -- The laws of what is written, one part after the other. Assumes nothing.
 use Rattle.std.specs.Prelude.{◌≡◌, refl, List, [], ◌∷◌, ◌++◌, ℕ, ◌+◌, ◌-◌, ◌<◌, ◌≤◌, length, take, drop, set}
-use Rattle.std.proofs.Common.{sym, ap, ◌∙◌, subst, append_assoc, append-nil, zero-add, add-one, arith, length-set, length-append, take-append-drop, take-suc-set, drop-set-lt, drop-drop}
+use Rattle.std.proofs.Common.{sym, ap, ◌∙◌, subst, append_assoc, append-nil, zero-add, add-one, arith, length-set, length-append, take-append-drop}
+use Rattle.std.proofs.Common.{take-suc-set, drop-set-lt, drop-drop}
 use Rattle.writing.specs.Writing.{WrittenAt, RoomFor}
 
 -- lists that are the same from k on are the same from further on

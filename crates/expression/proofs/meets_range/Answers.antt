@@ -40,9 +40,9 @@ loop-k-preserved c = (
   omega arith,
   below_more _ _ c.loop-k.invariant.1
       (elim c.if-held-k.branch [
-        then-held-k+else-between w ↦
-          λ b m. not-then-false (iff-trans w.between.ensures (between-iff c.requires.0 _ _ _ _ (omega arith))) w.if-between.false b
-      | else-held-k w ↦ λ b m. false≢true (sym w.if-held-k.false ∙ m)
+        | then-held-k+else-between w ↦
+            λ b m. not-then-false (iff-trans w.between.ensures (between-iff c.requires.0 _ _ _ _ (omega arith))) w.if-between.false b
+        | else-held-k w ↦ λ b m. false≢true (sym w.if-held-k.false ∙ m)
       ]),
 )
 

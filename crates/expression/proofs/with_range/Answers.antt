@@ -39,8 +39,8 @@ loop-k-preserved c =
     let i = iff-trans c.between.ensures (between-iff p.0 _ _ _ _ (omega arith)) in (
       omega arith,
       elim c.if-between.branch [
-        then-between w ↦ rw w.r-is (joined-mark j (omega (arith, p.0.tree.count)) (i.0 w.if-between.true))
-      | else-between w ↦ rw w.r-is (joined-skip j (not-then-false i w.if-between.false))
+        | then-between w ↦ rw w.r-is (joined-mark j (omega (arith, p.0.tree.count)) (i.0 w.if-between.true))
+        | else-between w ↦ rw w.r-is (joined-skip j (not-then-false i w.if-between.false))
       ],
     )
 

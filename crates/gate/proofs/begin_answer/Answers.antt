@@ -47,7 +47,8 @@ bounds-slots-at c =
 pub returns-then-not-is_free : goal.returns-then-not-is_free
 returns-then-not-is_free c = λ file s x.
     let taken = not-then-false c.is_free.ensures c.if-not-is_free.true in
-    then_next (slot_conditions s _) (rest (goal.at.returns-then-not-is_free c).Start s) _ (passed (goal.at.returns-then-not-is_free c).Else-not-granted file s x)
+    let at = goal.at.returns-then-not-is_free c in
+    then_next (slot_conditions s _) (rest at.Start s) _ (passed at.Else-not-granted file s x)
     (inl (refused (λ e. taken (hold-seen x ∙ e)) c.of.ensures))
 
 pub returns-then-seen-role : goal.returns-then-seen-role

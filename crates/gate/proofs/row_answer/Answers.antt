@@ -37,13 +37,15 @@ returns-then-not-granted c = λ s x.
 pub returns-then-nfiles-file : goal.returns-then-nfiles-file
 returns-then-nfiles-file c = λ s x.
     let a = c.args in
-    then_next (session_conditions s a.slot) (rest (goal.at.returns-then-nfiles-file c).Start s) _ (passed (goal.at.returns-then-nfiles-file c).Else-not-granted s x)
+    let at = goal.at.returns-then-nfiles-file c in
+    then_next (session_conditions s a.slot) (rest at.Start s) _ (passed at.Else-not-granted s x)
     (inl (refused (λ h. omega (arith, x.nfiles-is)) c.of.ensures))
 
 pub returns-then-mode-ge-MODES : goal.returns-then-mode-ge-MODES
 returns-then-mode-ge-MODES c = λ s x.
     let a = c.args in
-    then_next (session_conditions s a.slot) (rest (goal.at.returns-then-mode-ge-MODES c).Start s) _ (passed (goal.at.returns-then-mode-ge-MODES c).Else-not-granted s x)
+    let at = goal.at.returns-then-mode-ge-MODES c in
+    then_next (session_conditions s a.slot) (rest at.Start s) _ (passed at.Else-not-granted s x)
     (inr (omega (arith, x.nfiles-is), inl (refused (λ h. omega arith) c.of-then-mode-ge-MODES.ensures)))
 
 pub passes-requires : goal.passes-requires

@@ -66,7 +66,7 @@ pub print_front-right-requires : goal.print_front-right-requires
 print_front-right-requires t c = (
   omega (arith, from-length c.args.rest.now (1 + c.print_front-left.result.used), some-ahead c.requires),
   right-ahead c.requires c.if-code-lt-AND.false c.bracket-from.ensures c.needs_pair-left_pair.ensures c.print_front-left.ensures
-  c.put-joined.ensures c.needs_pair-right_pair.ensures,
+      c.put-joined.ensures c.needs_pair-right_pair.ensures,
 )
 
 pub bracket-to-requires : goal.bracket-to-requires

@@ -8,7 +8,8 @@ returns-then-mode-eq-WRITE c = iff-trans (and-iff _ _ c.part.ensures c.part-then
 
 pub returns-then-takes_content_out : goal.returns-then-takes_content_out
 returns-then-takes_content_out c =
-    iff-trans (and-iff _ _ c.part-then-takes_content_out.ensures c.part-then-takes_content_out-2.ensures) (out-fits (c.takes_content_out.ensures.0 c.if-takes_content_out.true))
+    iff-trans (and-iff _ _ c.part-then-takes_content_out.ensures c.part-then-takes_content_out-2.ensures)
+    (out-fits (c.takes_content_out.ensures.0 c.if-takes_content_out.true))
 
 pub returns : goal.returns
 returns c =

@@ -16,7 +16,8 @@ decreases-loop-i l = l.i-end - l.i
 
 abbrev pub invariant-loop-j : goal.invariant-loop-j
 invariant-loop-j l =
-    (l.j ≤ longest) × (length l.x ≤ l.j) × ((b : List ℕ) → longest * l.k + longest ≤ length b → Copied b l.k l.x l.initial.bytes (length l.x) → Copied b l.k l.x l.bytes l.j)
+    (l.j ≤ longest) × (length l.x ≤ l.j)
+    × ((b : List ℕ) → longest * l.k + longest ≤ length b → Copied b l.k l.x l.initial.bytes (length l.x) → Copied b l.k l.x l.bytes l.j)
 
 abbrev pub decreases-loop-j : goal.decreases-loop-j
 decreases-loop-j l = longest - l.j

@@ -10,8 +10,8 @@ use Rattle.expression.specs.Expression.{one, Expr, term, ◌AND◌, ◌OR◌, pr
 use Rattle.expression.specs.Bytes.{bytes, SET, MeetsT1, MeetsT2}
 use Rattle.expression.specs.Scan.{bytes-some}
 use Rattle.expression.specs.Unique.{one-expression}
-use Rattle.expression.specs.Decide.{NamedBelow, named_b, named-true, reaches_b, level_b, any_b, all_b, between_b, in_term_b}
-use Rattle.expression.specs.Decide.{in_b, met_b, both_true, any-iff, all-iff, in-below, in-iff, met-iff}
+use Rattle.expression.proofs.Decide.{NamedBelow, named_b, named-true, reaches_b, level_b, any_b, all_b, between_b, in_term_b}
+use Rattle.expression.proofs.Decide.{in_b, met_b, both_true, any-iff, all-iff, in-below, in-iff, met-iff}
 use Rattle.expression.specs.Starred.{park, these, Case, is_set, t1, t1-nobody, e-has, e-everybody, t2-bars, g-bars, Says, Means, cases, AllMean}
 
 unfoldable pub below_b : List ℕ → Bool
