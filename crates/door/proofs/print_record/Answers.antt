@@ -4,10 +4,6 @@ use Rattle.door.specs.Laws.{print-small}
 use Rattle.door.specs.Calls.{print-came}
 use Rattle.door.proofs.print_record.Goals as goal
 
-pub print_seen-answer-requires : goal.print_seen-answer-requires
-print_seen-answer-requires c =
-    c.requires.2
-
 pub pack-requires : goal.pack-requires
 pack-requires c =
     let w = c.requires.2 in
