@@ -50,6 +50,7 @@ pub extern "C" fn gate_serve(b: &mut BoxRecord, rec: &[u8], out: &mut [u8]) -> u
     }
     let at = r.at;
     b.state.files[at] = r.file;
-    b.state.slots = r.slots;
+    let slots = r.slots;
+    b.state.slots = slots;
     r.answer
 }

@@ -5,12 +5,6 @@ use Rattle.door.proofs.load_record.Goals as goal
 pub returns-then-parted-ne-LOAD : goal.returns-then-parted-ne-LOAD
 returns-then-parted-ne-LOAD c = load-none _ _ _ c.read_alone-parted.ensures c.if-parted-ne-LOAD.true
 
-pub slice_bounds-load_box-count : goal.slice_bounds-load_box-count
-slice_bounds-load_box-count c = (alone-inside _ _ c.read_alone-parted.ensures 0).0
-
-pub slice_bounds-load_box-start : goal.slice_bounds-load_box-start
-slice_bounds-load_box-start c = (alone-inside _ _ c.read_alone-parted.ensures 0).0
-
 pub slice_bounds-load_box-end : goal.slice_bounds-load_box-end
 slice_bounds-load_box-end c = (alone-inside _ _ c.read_alone-parted.ensures 0).1
 

@@ -1,5 +1,6 @@
 -- `serve_parts` meets its contract: no record, a load that is left to do, a print, or any other request. Assumes nothing.
 use native.Mathlib.Omega.{arith}
+use borrow.Author.Tests.{not-true, not-false}
 use Rattle.policy.specs.Fine.{state_of_parts}
 use Rattle.gate.specs.Effects.{after}
 use Rattle.door.specs.Inner.{request_at}
@@ -9,7 +10,7 @@ use Rattle.door.proofs.serve_parts.Goals as goal
 
 pub returns-then-not-parted : goal.returns-then-not-parted
 returns-then-not-parted c =
-    serve-none _ _ _ _ c.read_alone-parted.ensures c.if-not-parted.true _ (c.unaltered.ensures _ _ _ _)
+    serve-none _ _ _ _ c.read_alone-parted.ensures (not-true _ c.if-not-parted.true) _ (c.unaltered.ensures _ _ _ _)
 
 pub returns-then-code-eq-LOAD : goal.returns-then-code-eq-LOAD
 returns-then-code-eq-LOAD c =
@@ -31,7 +32,7 @@ returns-then-code-eq-PRINT c =
 pub effect_in-effect-requires : goal.effect_in-effect-requires
 effect_in-effect-requires c =
     let read = c.read_alone-parted.ensures in
-    (alone-code _ _ read c.if-not-parted.false, alone-inside _ _ read, (_, c.seen_in-seen.ensures))
+    (alone-code _ _ read (not-false _ c.if-not-parted.false), alone-inside _ _ read, (_, c.seen_in-seen.ensures))
 
 pub pack-requires : goal.pack-requires
 pack-requires c =
@@ -45,5 +46,5 @@ pack-requires c =
 
 pub returns : goal.returns
 returns c =
-    serve-other _ _ _ _ c.read_alone-parted.ensures c.if-not-parted.false c.if-code-eq-LOAD.false c.if-code-eq-PRINT.false _
+    serve-other _ _ _ _ c.read_alone-parted.ensures (not-false _ c.if-not-parted.false) c.if-code-eq-LOAD.false c.if-code-eq-PRINT.false _
     (c.effect_in-effect.ensures _ c.seen_in-seen.ensures) _ c.pack.ensures

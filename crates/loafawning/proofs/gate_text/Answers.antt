@@ -3,4 +3,4 @@ use Rattle.loafawning.specs.Laws.{small}
 use Rattle.loafawning.proofs.gate_text.Goals as goal
 
 pub pack-requires : goal.pack-requires
-pack-requires c = small _ _ _ c.turn.ensures.0
+pack-requires c = small _ _ _ c.turn.ensures.decides
