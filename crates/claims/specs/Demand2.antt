@@ -26,7 +26,8 @@ use Rattle.gate.specs.Requests.{begin_conditions, end_conditions, ask_conditions
 use Rattle.gate.specs.Requests.{Outcome, Does, Begins, Ends, Asks, Changes, Bypasses}
 use Rattle.gate.specs.Granted.{SessionGranted, BeginGranted, AskGranted, ChangeGranted, BypassGranted}
 use Rattle.gate.specs.Laws.{begin-places, end-places, ask-places, change-places, bypass-places}
-use Rattle.gate.specs.Laws.{begin-granted, end-granted, ask-granted, change-granted, bypass-granted}
+use Rattle.gate.specs.Laws.{begin-granted, end-granted, ask-granted}
+use Rattle.gate.proofs.Altering.{change-granted, bypass-granted}
 use Rattle.claims.specs.Needs.{AskNeeds, MayAct, by-reading, by-writing, by-executing, by-detecting, by-changing}
 use Rattle.claims.specs.Needs.{held_plus, T1Meant, ProtectionsMeant}
 

@@ -13,7 +13,8 @@ use Rattle.policy.specs.WellFormed.{WellFormed}
 use Rattle.policy.specs.Fresh.{fresh-well-formed}
 use Rattle.image.specs.Laws.{granted-well-formed}
 use Rattle.gate.specs.Requests.{begin_conditions, end_conditions, ask_conditions, change_conditions, bypass_conditions}
-use Rattle.gate.specs.Laws.{begin-kept, end_kept, ask-kept, change-kept, bypass-kept}
+use Rattle.gate.specs.Laws.{begin-kept, end_kept, ask-kept}
+use Rattle.gate.proofs.Altering.{change-kept, bypass-kept}
 use Rattle.machine.specs.Machine.{Request, load, begin, end, ask, change, bypass, Step, GateEvent, GateRun}
 use Rattle.machine.specs.Runs.{none, next}
 

@@ -8,7 +8,8 @@ use Rattle.policy.specs.declared.State.{State}
 use Rattle.policy.specs.State.{IsMode, Hold, Free, By, hold_of, e_of, g_of, with_hold, with_t1_t2}
 use Rattle.policy.specs.Whole.{free-held}
 use Rattle.policy.specs.Reads.{hold-there, change-keeps}
-use Rattle.gate.specs.Laws.{begin-granted, end-granted, change-granted}
+use Rattle.gate.specs.Laws.{begin-granted, end-granted}
+use Rattle.gate.proofs.Altering.{change-granted}
 use Rattle.machine.specs.Runs.{none, next}
 use Rattle.machine.specs.Machine.{Request, load, begin, end, ask, change, bypass, Step, GateEvent, GateRun}
 use Rattle.claims.specs.Trace.{Resets, Quiet, NoEnd}

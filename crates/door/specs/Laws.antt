@@ -12,7 +12,8 @@ use Rattle.policy.specs.WellFormed.{WellFormed}
 use Rattle.print.specs.Print.{PrintOf, print_conditions, print_grants}
 use Rattle.print.specs.Laws.{one-print-of, one-print-answer, print-most}
 use Rattle.image.specs.Laws.{load_inside, load-place}
-use Rattle.gate.specs.Small.{begin-small, end-small, ask-small, change-small, bypass-small}
+use Rattle.gate.specs.Small.{begin-small, end-small, ask-small}
+use Rattle.gate.proofs.Altering.{change-small, bypass-small}
 use Rattle.machine.specs.Runs as runs
 use Rattle.machine.specs.Machine.{Request, load, begin, end, ask, change, bypass, Step, GateRun}
 use Rattle.machine.specs.Served.{request_of}

@@ -1,4 +1,5 @@
--- Each request leaves one answer and one state, keeps a well-formed state well formed, and a grant tells what its conditions say. Assumes nothing.
+-- Each request leaves one answer and one state, keeps a well-formed state well formed, and a grant tells what its conditions say. (Of change and bypass that
+-- stands in proofs/Altering.) Assumes nothing.
 use Rattle.std.specs.Prelude.{◌≡◌, refl, true, List, [], ◌∷◌, ◌++◌, ℕ}
 use Rattle.std.proofs.Common.{sym, ap, ap₂, ◌∙◌, subst}
 use Rattle.std.proofs.Math.Decide.{ℕ_discrete}
@@ -69,12 +70,6 @@ module _ (s : State) (slot : ℕ) where
     pub one-ask : AtMostOne (Asks s slot file mode)
     one-ask = one-outcome (ask_conditions s slot file mode) 0 _ s (ask-places s slot file mode)
 
-    pub one-change : (t1 t2 : List ℕ) → AtMostOne (Changes s slot file mode t1 t2)
-    one-change t1 t2 = one-outcome (change_conditions s slot file mode t1 t2) 0 _ s (change-places s slot file mode t1 t2)
-
-    pub one-bypass : (e g : List ℕ) → AtMostOne (Bypasses s slot file mode e g)
-    one-bypass e g = one-outcome (bypass_conditions s slot file mode e g) 0 _ s (bypass-places s slot file mode e g)
-
 -- what a grant has shown
 pub shown : (cs : List Condition) (at : ℕ) (a : Answer) → refuses cs ≡ true → DecidesAt cs at a → Granted a → AllHold cs
 shown cs at a ref d g = granted-all (λ k. k ≡ at) a cs ref d g
@@ -116,14 +111,6 @@ module _ (s : State) (slot : ℕ) (a : Answer) where
         let (w, (l, (t, (p, (m, (r, (x, _))))))) = shown (ask_conditions s slot file mode) 0 a refl d g in
         record { row = row_named s slot file mode mode (w, (l, (t, (p, (m, (r, tt)))))); mediates = x }
 
-    pub change-granted : (x y : List ℕ) → DecidesAt (change_conditions s slot file mode x y) 0 a → Granted a → ChangeGranted s slot file mode x y
-    change-granted x y d g = store-named s slot file mode Protection x y (shown (change_conditions s slot file mode x y) 0 a refl d g)
-
-    pub bypass-granted : (x y : List ℕ) → DecidesAt (bypass_conditions s slot file mode x y) 0 a → Granted a → BypassGranted s slot file mode x y
-    bypass-granted x y d g =
-        let (w, (l, (t, (p, (m, (r, (i, (j, (c, _))))))))) = shown (bypass_conditions s slot file mode x y) 0 a refl d g in
-        record { store = store-named s slot file mode Privilege x y (w, (l, (t, (p, (m, (r, (i, (j, tt)))))))); covers = c }
-
 -- begin takes nothing from the slot's past: what a begun slot holds is the role asked for
 pub begun-holds : (s : State) (slot role : ℕ) (r : Outcome) → Begins s slot role r → Granted r.answer → hold_of r.state slot ≡ By role
 begun-holds s slot role r d g =
@@ -131,7 +118,7 @@ begun-holds s slot role r d g =
     ap (λ (t : State). hold_of t slot) (d.leaves.on-grant g) ∙ hold-here s h.well-formed.room slot (By role) h.known
 
 -- a request keeps a well-formed state well formed, if what a grant makes is well formed
-kept : (cs : List Condition) (at : ℕ) (made s : State) (r : Outcome) → WellFormed s → (Granted r.answer → WellFormed made) → Does cs at made s r
+pub kept : (cs : List Condition) (at : ℕ) (made s : State) (r : Outcome) → WellFormed s → (Granted r.answer → WellFormed made) → Does cs at made s r
     → WellFormed r.state
 kept cs at made s r w h d = go (ℕ_discrete r.answer.number 0)
   where
@@ -150,17 +137,3 @@ module _ (s : State) (w : WellFormed s) (slot : ℕ) where
   module _ (file mode : ℕ) where
     pub ask-kept : (r : Outcome) → Asks s slot file mode r → WellFormed r.state
     ask-kept r d = kept (ask_conditions s slot file mode) 0 _ s r w (λ g. w) d
-
-    pub change-kept : (t1 t2 : List ℕ) (r : Outcome) → Changes s slot file mode t1 t2 r → WellFormed r.state
-    change-kept t1 t2 r d = kept (change_conditions s slot file mode t1 t2) 0 _ s r w (λ g.
-        let h = change-granted s slot r.answer file mode t1 t2 d.decides g in
-        let (k, p, o) = h.first in
-        let (e, q, v) = h.second in
-        t1t2-kept s w k p file h.row.present mode h.row.is-mode t1 t2 o (rw (one-depth q p) at v)) d
-
-    pub bypass-kept : (e g : List ℕ) (r : Outcome) → Bypasses s slot file mode e g r → WellFormed r.state
-    bypass-kept x y r d = kept (bypass_conditions s slot file mode x y) 0 _ s r w (λ g.
-        let h = (bypass-granted s slot r.answer file mode x y d.decides g).store in
-        let (k, p, o) = h.first in
-        let (e, q, v) = h.second in
-        eg-kept s w k p file h.row.present mode h.row.is-mode x y o (rw (one-depth q p) at v)) d

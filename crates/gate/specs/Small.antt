@@ -1,4 +1,5 @@
--- A request's number has at most two digits; its place has one, and three where it names an expression's. Assumes nothing.
+-- A request's number has at most two digits; its place has one, and three where it names an expression's. (Of change and bypass that stands in
+-- proofs/Altering.) Assumes nothing.
 use Rattle.std.specs.Prelude.{◌≡◌, refl, List, [], ◌∷◌, ◌++◌, ℕ, suc, ◌<◌}
 use Rattle.std.proofs.Common.{arith}
 use Rattle.answer.specs.declared.Answer.{Answer}
@@ -16,11 +17,11 @@ abbrev pub Small : ℕ → Answer → Type 0
 Small m a = Under 100 m a
 
 -- a place that is not named has one digit
-unnamed : {m : ℕ} (k : ℕ) → k ≡ 0 → k < suc m
+pub unnamed : {m : ℕ} (k : ℕ) → k ≡ 0 → k < suc m
 unnamed k e = omega arith
 
 module _ (s : State) (slot file mode : ℕ) (kind : Kind) (x y : List ℕ) where
-  store-places : (more : List Condition) → PlacesUnder 1000 more → PlacesUnder 1000 (store_conditions kind s slot file mode x y ++ more)
+  pub store-places : (more : List Condition) → PlacesUnder 1000 more → PlacesUnder 1000 (store_conditions kind s slot file mode x y ++ more)
   store-places more p =
       let both : PlacesUnder 1000 (expression_conditions kind s.tree x y ++ more) =
       (added-place 0 (omega arith) kind s.tree x, (added-place second (omega arith) kind s.tree y, p)) in
@@ -38,13 +39,3 @@ module _ (s : State) (slot : ℕ) where
     ask-small a =
         answer-under {a = a} 100 10 (ask_conditions s slot file mode) (omega arith) unnamed refl
         (unnamed, (unnamed, (unnamed, (unnamed, (unnamed, (unnamed, (unnamed, tt)))))))
-
-    pub change-small : (x y : List ℕ) (a : Answer) → DecidesAt (change_conditions s slot file mode x y) 0 a → Small 1000 a
-    change-small x y a =
-        answer-under {a = a} 100 1000 (change_conditions s slot file mode x y) (omega arith) unnamed refl (store-places s slot file mode Protection x y [] tt)
-
-    pub bypass-small : (x y : List ℕ) (a : Answer) → DecidesAt (bypass_conditions s slot file mode x y) 0 a → Small 1000 a
-    bypass-small x y a =
-        let last = covered s slot file mode x y ∷ [] in
-        let places = store-places s slot file mode Privilege x y last (unnamed, tt) in
-        answer-under {a = a} 100 1000 (bypass_conditions s slot file mode x y) (omega arith) unnamed refl places

@@ -6,7 +6,8 @@ use Rattle.policy.specs.declared.State.{State}
 use Rattle.image.specs.declared.Loaded.{Loaded}
 use Rattle.image.specs.Laws.{one-load}
 use Rattle.gate.specs.Requests.{Outcome}
-use Rattle.gate.specs.Laws.{one-begin, one_end, one-ask, one-change, one-bypass}
+use Rattle.gate.specs.Laws.{one-begin, one_end, one-ask}
+use Rattle.gate.proofs.Altering.{one-change, one-bypass}
 use Rattle.machine.specs.Machine.{Request, load, begin, end, ask, change, bypass, Step}
 
 -- one answer, and one state after it

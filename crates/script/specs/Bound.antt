@@ -8,7 +8,8 @@ use Rattle.policy.specs.State.{fresh_state}
 use Rattle.image.specs.Image.{expression_bytes}
 use Rattle.image.specs.Load.{Loads}
 use Rattle.image.specs.Laws.{load_inside}
-use Rattle.gate.specs.Small.{Small, begin-small, end-small, ask-small, change-small, bypass-small}
+use Rattle.gate.specs.Small.{Small, begin-small, end-small, ask-small}
+use Rattle.gate.proofs.Altering.{change-small, bypass-small}
 use Rattle.machine.specs.Machine.{Request, Step}
 use Rattle.lines.specs.Lines.{Line}
 use Rattle.lines.specs.Lengths.{line-length, under-power}

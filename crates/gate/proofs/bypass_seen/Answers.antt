@@ -6,7 +6,7 @@ use Rattle.policy.specs.State.{e_place}
 use Rattle.policy.specs.WellFormed.{Examines}
 use Rattle.gate.specs.Requests.{bypass_conditions}
 use Rattle.gate.specs.Granted.{BypassGranted}
-use Rattle.gate.specs.Laws.{bypass-granted}
+use Rattle.gate.proofs.Altering.{bypass-granted}
 use Rattle.gate.proofs.Stages.{tells-stored}
 use Rattle.gate.proofs.bypass_seen.Goals as goal
 use Rattle.gate.proofs.bypass_seen.Goals.{After-bypass_answer-answer}

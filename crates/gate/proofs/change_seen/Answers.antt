@@ -6,7 +6,7 @@ use Rattle.policy.specs.State.{t1_place}
 use Rattle.policy.specs.WellFormed.{Examines}
 use Rattle.gate.specs.Requests.{change_conditions}
 use Rattle.gate.specs.Granted.{ChangeGranted}
-use Rattle.gate.specs.Laws.{change-granted}
+use Rattle.gate.proofs.Altering.{change-granted}
 use Rattle.gate.proofs.Stages.{tells-stored}
 use Rattle.gate.proofs.change_seen.Goals as goal
 use Rattle.gate.proofs.change_seen.Goals.{After-store_answer-answer}
