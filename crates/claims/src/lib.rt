@@ -1,2 +1,2 @@
-// No code stands here: specs/ states and proves what holds of the whole.
+// No code stands here: specs/ and proofs/ state and prove what holds of the whole.
 #![tactic(auto)]

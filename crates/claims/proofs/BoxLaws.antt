@@ -9,7 +9,7 @@ use Rattle.door.specs.declared.BoxRecord.{BoxRecord}
 use Rattle.door.specs.Box.{Refills}
 use Rattle.door.specs.Laws.{done-runs}
 use Rattle.claims.specs.Trace.{Quiet}
-use Rattle.claims.specs.Demand3.{AfterLoad}
+use Rattle.claims.proofs.Demand3.{AfterLoad}
 use Rattle.claims.specs.Boxes.{BoxLife, not_yet, given-a-record, given-no-record, given-an-image}
 
 pub a-box-lives-a-run : {b c : BoxRecord} {es : List GateEvent} → BoxLife b es c → GateRun b.state es c.state

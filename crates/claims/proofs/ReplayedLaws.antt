@@ -9,7 +9,7 @@ use Rattle.machine.specs.Runs.{none, next}
 use Rattle.machine.specs.Machine.{Request, load, GateEvent, GateRun}
 use Rattle.script.specs.Script.{Plays, ended, called, cut, cut_line, no_lines, line-then, stated, image_in, Prints, Loaded}
 use Rattle.claims.specs.Trace.{Quiet}
-use Rattle.claims.specs.Demand3.{AfterLoad}
+use Rattle.claims.proofs.Demand3.{AfterLoad}
 use Rattle.claims.specs.Replayed.{AreRecords, no_more, record-then, LastPrints, RecordsRun, InputRun}
 
 pub records-run : {s : State} {bytes printed : List ℕ} → Plays s bytes printed → RecordsRun s bytes printed

@@ -30,9 +30,9 @@ use Rattle.machine.specs.Runs.{Run, none, next}
 use Rattle.machine.specs.Machine.{load, begin, end, ask, bypass, Step, GateEvent, GateRun}
 use Rattle.claims.specs.Trace.{Quiet, TakesOut, by-ask, by-write, Move, PassesIndelible}
 use Rattle.claims.specs.Before.{mediated_before, StepBefore}
-use Rattle.claims.specs.Demand3.{AfterLoad}
+use Rattle.claims.proofs.Demand3.{AfterLoad}
 use Rattle.claims.specs.Steps.{granted, done, made, row-holds, begin-step, end_step, ask-step, bypass-step}
-use Rattle.claims.specs.MoveLaws.{move-confines}
+use Rattle.claims.proofs.MoveLaws.{move-confines}
 use Rattle.claims.specs.Sample.{root, sample_image, sample, sample-loads, sample-well-formed, sample-depth, sample-root, sample-free, sample-counts}
 use Rattle.claims.specs.Sample.{freed-again, RoleParts, FileParts, sample-role0, sample-role1, sample-role2}
 use Rattle.claims.specs.Sample.{sample-file0, sample-file1, sample-file2, sample-file3}

@@ -15,7 +15,7 @@ use Rattle.machine.specs.Machine.{Request, ask, Step, GateEvent, GateRun}
 use Rattle.machine.specs.RunLaws.{cut_at}
 use Rattle.claims.specs.Trace.{Quiet, file_of, TakesOut, by-ask, PutsIn, by-write, Move, Reached, itself, moved}
 use Rattle.claims.specs.Trace.{ReachedInTime, already, moved_on, PassesIndelible}
-use Rattle.claims.specs.TraceLaws.{Kept, kept_then, step_keeps, run-keeps, run_holds, quiet-split}
+use Rattle.claims.proofs.TraceLaws.{Kept, kept_then, step_keeps, run-keeps, run_holds, quiet-split}
 
 -- who reads b by its indelible parts holds what a's indelible parts ask: E and G of a's Read row are within those of b's
 pub record Confines (s : State) (a b : ℕ) : Type 0 where

@@ -18,7 +18,7 @@ use Rattle.machine.specs.Machine.{Request, begin, change, bypass, Step}
 use Rattle.claims.specs.Demand2.{begin-granted-exactly, change-granted-exactly, bypass-granted-exactly}
 use Rattle.claims.specs.Sample.{root, sample, sample-well-formed, sample-free, sample-counts, sample-depth, sample-root}
 use Rattle.claims.specs.Sample.{sample-role0, sample-file1, held_by}
-use Rattle.claims.specs.Examples.{row, its, held-is, changes-row, covered, none-in-order}
+use Rattle.claims.proofs.Examples.{row, its, held-is, changes-row, covered, none-in-order}
 use Rattle.claims.specs.Programs.{AllUnder, CodeState, CodeRequest, Program, Keeps, RefusesAlways, Answers0Always, NeverStores}
 use Rattle.claims.specs.Programs.{IsBegin, IsChange, IsBypass, RepeatsItself}
 use Rattle.claims.specs.ProgramLaws.{well-formed-code}

@@ -12,8 +12,8 @@ use Rattle.policy.specs.declared.State.{State}
 use Rattle.policy.specs.State.{IsMode, e_of, g_of}
 use Rattle.machine.specs.Machine.{load, Step, GateEvent, GateRun}
 use Rattle.claims.specs.Trace.{Quiet, Reached, ReachedInTime, PassesIndelible}
-use Rattle.claims.specs.TraceLaws.{run-keeps}
-use Rattle.claims.specs.MoveLaws.{reached-confines, in-time, passes-first, passes_kept, passes-loaded}
+use Rattle.claims.proofs.TraceLaws.{run-keeps}
+use Rattle.claims.proofs.MoveLaws.{reached-confines, in-time, passes-first, passes_kept, passes-loaded}
 
 -- "Take any sequence of requests after a granted load, with no later load and no bypass change granted in it.": whatever the state before was, a load
 -- was granted and left `loaded`; then came these requests, in which no load and no bypass was granted, and left `present`
