@@ -42,4 +42,4 @@ returns c =
     let l = c.loop-i in
     let v = l.invariant in
     let e : l.i ≡ a.k = omega (arith, v.0, c.loop-i-test.false) in
-    subst (λ (z : ℕ). WrittenAt a.out.now a.at (take z a.t3) l.out l.p) e v.1
+    subst (λ (z : ℕ). WrittenAt a.out.now a.at (take z a.d) l.out l.p) e v.1
