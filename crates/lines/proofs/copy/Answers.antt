@@ -33,9 +33,6 @@ loop-i-preserved c =
     let q = c.requires in
     (omega arith, copy_more _ c.args.d _ c.loop-i.i (omega (arith, q.0)) _ _ _ _ c.loop-i.invariant.1 c.put-p.ensures)
 
-pub shape_of-out : goal.shape_of-out
-shape_of-out c = c.loop-i.invariant.1.long
-
 pub returns : goal.returns
 returns c =
     let a = c.args in
