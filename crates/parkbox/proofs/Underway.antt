@@ -121,6 +121,16 @@ module _ {b : BoxRecord} {window first : List ℕ} {state : State} {used : ℕ} 
   pub left-length : length left ≡ length window - used
   left-length = ap length left_is ∙ length-drop used window
 
+  -- no more is printed than there is room for, and the next record lies within the window
+  pub room-there : n ≤ length before
+  room-there = omega (arith, long, g.fits)
+
+  pub in_window : {size : ℕ} → SizeIs left size → used + size ≤ length window
+  in_window s = omega (arith, s.within, left-length, g.within)
+
+  pub further : {size : ℕ} → SizeIs left size → (size ≡ 0 → ⊥) → length window - (used + size) < length window - used
+  further s some = omega (arith, in_window s)
+
   -- the record that stands next
   pub record-here : {size end : ℕ} → end ≡ used + size → (size ≡ 0 → ⊥) → SizeIs left size
       → (c : Call) × IsBoxRecord (take (end - used) (drop used window)) c []
