@@ -1,6 +1,5 @@
 -- `collect` meets its contract: what was passed is kept, and no line end was in it. The measure is what is left of the input. Assumes nothing.
 use mathlib.Core.Path.{◌∙◌}
-use Prim.Native.Nat.{◌-◌}
 use Rattle.lines.proofs.Laws.{collect-start, collect-more, collect-ended, collect-all}
 use Rattle.lines.proofs.collect.Goals as goal
 

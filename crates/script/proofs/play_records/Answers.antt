@@ -34,7 +34,7 @@ pub overflow_add-at : goal.overflow_add-at
 overflow_add-at c =
     let tell = c.tell-told in
     let g = goes c.loop-s.invariant.0 c.play-played.result tell.new.out tell.result c.play-played.ensures tell.ensures
-        (not-false _ c.if-not-told.false) (omega (arith, tell.auto)) in
+    (not-false _ c.if-not-told.false) (omega (arith, tell.auto)) in
     omega (arith, g.1.within, c.well_formed)
 
 pub offset_bounds-s-i : goal.offset_bounds-s-i
@@ -47,7 +47,7 @@ pub loop-s-smaller : goal.loop-s-smaller
 loop-s-smaller c =
     let tell = c.tell-told in
     let g = goes c.loop-s.invariant.0 c.play-played.result tell.new.out tell.result c.play-played.ensures tell.ensures
-        (not-false _ c.if-not-told.false) (omega (arith, tell.auto)) in
+    (not-false _ c.if-not-told.false) (omega (arith, tell.auto)) in
     omega (arith, g.0, g.1.within)
 
 pub loop-s-preserved : goal.loop-s-preserved
