@@ -5,7 +5,7 @@ use native.Mathlib.Omega.{arith}
 use lib.Dec.{ltb}
 use lib.ListN.{length}
 use borrow.Author.Tests.{ltb-true, ltb-false}
-use Rattle.parkbox.proofs.Underway.{made-by-load, made-by-call, underway-first, long, room-length, room-there, in_window, further, record-here}
+use Rattle.parkbox.proofs.Underway.{made-by-load, made-by-call, underway-first, room-length, room-there, in_window, further, record-here}
 use Rattle.parkbox.proofs.Underway.{served-on, last-has-room, waiting, over-here}
 use Rattle.parkbox.proofs.serve_window.Goals as goal
 
