@@ -6,7 +6,7 @@ use mathlib.Core.Logic.{◌⊎◌, inl, inr}
 use Prim.Native.Nat.{ℕ, ◌+◌, ◌-◌, ◌/◌, ◌%◌, ◌<◌, ◌≤◌}
 use native.Mathlib.Omega.{arith}
 use lib.ListN.{length, take, drop, length-append, length-drop, drop_of_length-le, take-append-drop}
-use lib.Seq.{length-take-le, take_all, take_at, drop_at, drop-drop, get_or-drop}
+use lib.Seq.{take_all, take_at, drop_at, drop-drop, get_or-drop}
 use Rattle.answer.specs.declared.Answer.{Answer}
 use Rattle.policy.specs.declared.State.{State}
 use Rattle.machine.specs.Machine.{load}
@@ -121,6 +121,16 @@ module _ {b : BoxRecord} {window first : List ℕ} {state : State} {used : ℕ} 
   pub left-length : length left ≡ length window - used
   left-length = ap length left_is ∙ length-drop used window
 
+  -- no more is printed than there is room for, and the next record lies within the window
+  pub room-there : n ≤ length before
+  room-there = omega (arith, long, g.fits)
+
+  pub in_window : {size : ℕ} → SizeIs left size → used + size ≤ length window
+  in_window s = omega (arith, s.within, left-length, g.within)
+
+  pub further : {size : ℕ} → SizeIs left size → (size ≡ 0 → ⊥) → length window - (used + size) < length window - used
+  further s some = omega (arith, in_window s)
+
   -- the record that stands next
   pub record-here : {size end : ℕ} → end ≡ used + size → (size ≡ 0 → ⊥) → SizeIs left size
       → (c : Call) × IsBoxRecord (take (end - used) (drop used window)) c []
@@ -142,20 +152,6 @@ module _ {b : BoxRecord} {window first : List ℕ} {state : State} {used : ℕ} 
       ap₂ (λ (u v : List ℕ). u ++ (w ++ v)) front none
       ∙ ap (λ (l : List ℕ). g.printed ++ l) (append-nil w ∙ rest)
       ∙ sym (append_assoc g.printed line (drop (n + k) first))
-
-  pub back-length : (w : List ℕ) → length w ≡ length room → length (back w) ≡ length first
-  back-length w e =
-      let h = length-take-le n before (omega (arith, long, g.fits)) in
-      omega (
-        arith,
-        length-append (take n before) (w ++ drop (length before - n) (drop n before)),
-        length-append w (drop (length before - n) (drop n before)),
-        length-drop (length before - n) (drop n before),
-        length-drop n before,
-        room-length,
-        long,
-        g.fits,
-      )
 
   -- one record more
   module _ {w given : List ℕ} {size end k r : ℕ} {then : BoxRecord} (ends_at : end ≡ used + size) (inside : SizeIs left size)

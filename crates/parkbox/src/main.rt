@@ -2,15 +2,17 @@
 // functions after it read and write; all else stands in the functions before it, over slices.
 #![tactic(auto)]
 
-ghost use Rattle.std.specs.Prelude.{◌≡◌, ◌≤◌, ◌+◌, ◌*◌, length, take};
+ghost use Rattle.std.specs.Prelude.{◌≡◌, ◌≤◌, ◌+◌, ◌*◌, length, take, IfOk};
 ghost use Rattle.lines.specs.Lines.{Fills};
 ghost use Rattle.parkbox.specs.Windows.{line_lent, unbegun, ParkedIs};
 ghost use Rattle.parkbox.specs.Inner.{SizeIs, unpacked, LastTold};
 
 use answer::Answer;
 use door::BoxRecord;
-use libc::{STDERR_FILENO, STDIN_FILENO, STDOUT_FILENO};
 use script::WINDOW;
+use std::env::{Env, FillError};
+use std::io;
+use std::io::{Read, Write};
 
 // The most bytes that a record has: a code, two bytes of length, and as many as they can say.
 const LONGEST: usize = 65538;
@@ -121,53 +123,57 @@ fn begin_run() -> Parked
     came_to(door::fresh_box(), 0, 0, true)
 }
 
-// More of the input after the n bytes that the window holds, unless the input has ended; how many it holds then.
-fn refill(window: &mut [u8], n: usize, ends: bool) -> usize
+// More of the input after the n bytes that the window holds, until it is full, unless the input has ended; how many it holds then.
+fn refill<R: Read>(input: &mut R, window: &mut [u8], n: usize, ends: bool) -> io::Result<usize>
     requires { n ≤ length window.old }
-    ensures { result ≤ length window.old }
+    ensures { IfOk result (λ held. held ≤ length window.old) }
 {
     if ends {
-        return n;
+        return Ok(n);
     }
-    n + io::read_full(STDIN_FILENO, &mut window[n..])
+    let mut held = n;
+    while held < window.len() {
+        let got = input.read(&mut window[held..])?;
+        if got == 0 {
+            break;
+        }
+        held += got;
+    }
+    Ok(held)
 }
 
-// A block of the output is written; whether that failed, which is reported.
-fn failed(block: &[u8]) -> bool {
-    if io::write_all(STDOUT_FILENO, block) {
-        return false;
-    }
-    io::write_all(STDERR_FILENO, b"parkbox: the output can't be written\n");
-    true
-}
-
-// One window after another. The loop counts its turns down from a number that no run uses up: nothing says that the input ends.
-fn run() {
+// One window after another. Nothing says that the input ends, so the loop has a bound that no run comes to.
+fn run<R: Read, W: Write>(input: &mut R, output: &mut W) -> io::Result<()> {
     let mut window = [0u8; WINDOW];
     let mut out = [0u8; WINDOW];
     let mut p = begin_run();
     let mut n = 0usize;
     let mut ends = false;
-    let mut turns = u64::MAX;
-    while turns > 0 && p.more {
+    for _ in 0..u64::MAX {
+        if !p.more {
+            break;
+        }
         let used = p.used;
         let held = script::to_front(&mut window, used, n);
-        n = refill(&mut window, held, ends);
+        n = refill(input, &mut window, held, ends)?;
         ends = n < WINDOW;
         let b = p.after;
         p = serve_window(b, &window[..n], ends, &mut out);
         let k = p.n;
-        if failed(&out[..k]) {
-            return;
-        }
-        turns -= 1;
+        output.write_all(&out[..k])?;
     }
+    Ok(())
 }
 
-fn main() {
-    if 1 < os::arg_count() {
-        io::write_all(STDERR_FILENO, b"usage: parkbox < records\n");
-        return;
+// Whether the program was given an argument.
+fn has_argument(rt: &impl Env) -> bool {
+    let mut name = [0u8; 1];
+    !matches!(rt.arg(1, &mut name), Err(FillError::NotPresent))
+}
+
+fn main(rt: HostRuntime) -> io::Result<()> {
+    if has_argument(&rt) {
+        return eprintln!(rt; "usage: parkbox < records");
     }
-    run();
+    run(&mut rt.stdin(), &mut rt.stdout())
 }

@@ -1,57 +1,63 @@
 // The replay program (01): an image and records from standard input; per call a line with the number and the place.
 #![tactic(auto)]
 
-ghost use Rattle.std.specs.Prelude.{◌≤◌, length};
+ghost use Rattle.std.specs.Prelude.{◌≤◌, length, IfOk};
 
-use libc::{STDERR_FILENO, STDIN_FILENO, STDOUT_FILENO};
 use script::WINDOW;
+use std::env::{Env, FillError};
+use std::io;
+use std::io::{Read, Write};
 
-// More of the input after the n bytes that the window holds, unless the input has ended; how many it holds then.
-fn refill(window: &mut [u8], n: usize, ends: bool) -> usize
+// More of the input after the n bytes that the window holds, until it is full, unless the input has ended; how many it holds then.
+fn refill<R: Read>(input: &mut R, window: &mut [u8], n: usize, ends: bool) -> io::Result<usize>
     requires { n ≤ length window.old }
-    ensures { result ≤ length window.old }
+    ensures { IfOk result (λ held. held ≤ length window.old) }
 {
     if ends {
-        return n;
+        return Ok(n);
     }
-    n + io::read_full(STDIN_FILENO, &mut window[n..])
+    let mut held = n;
+    while held < window.len() {
+        let got = input.read(&mut window[held..])?;
+        if got == 0 {
+            break;
+        }
+        held += got;
+    }
+    Ok(held)
 }
 
-// A block of the output is written; whether that failed, which is reported.
-fn failed(block: &[u8]) -> bool {
-    if io::write_all(STDOUT_FILENO, block) {
-        return false;
-    }
-    io::write_all(STDERR_FILENO, b"replay: the output can't be written\n");
-    true
-}
-
-// One window after another. The loop counts its turns down from a number that no run uses up: nothing says that the input ends.
-fn replay() {
+// One window after another. Nothing says that the input ends, so the loop has a bound that no run comes to.
+fn replay<R: Read, W: Write>(input: &mut R, output: &mut W) -> io::Result<()> {
     let mut window = [0u8; WINDOW];
     let mut out = [0u8; WINDOW];
     let mut w = script::at_front();
     let mut n = 0usize;
     let mut ends = false;
-    let mut turns = u64::MAX;
-    while turns > 0 && w.more {
+    for _ in 0..u64::MAX {
+        if !w.more {
+            break;
+        }
         let used = w.used;
         let held = script::to_front(&mut window, used, n);
-        n = refill(&mut window, held, ends);
+        n = refill(input, &mut window, held, ends)?;
         ends = n < WINDOW;
         w = script::play_window(w, &window[..n], ends, &mut out);
         let k = w.n;
-        if failed(&out[..k]) {
-            return;
-        }
-        turns -= 1;
+        output.write_all(&out[..k])?;
     }
+    Ok(())
 }
 
-fn main() {
-    if 1 < os::arg_count() {
-        io::write_all(STDERR_FILENO, b"usage: replay < input\n");
-        return;
+// Whether the program was given an argument.
+fn has_argument(rt: &impl Env) -> bool {
+    let mut name = [0u8; 1];
+    !matches!(rt.arg(1, &mut name), Err(FillError::NotPresent))
+}
+
+fn main(rt: HostRuntime) -> io::Result<()> {
+    if has_argument(&rt) {
+        return eprintln!(rt; "usage: replay < input");
     }
-    replay();
+    replay(&mut rt.stdin(), &mut rt.stdout())
 }

@@ -1,6 +1,7 @@
 -- An output that is filled byte after byte holds what was written, as far as it fits. Assumes nothing.
 use Rattle.std.specs.Prelude.{◌≡◌, refl, List, [], ◌∷◌, ◌++◌, ℕ, suc, ◌+◌, ◌-◌, ◌<◌, ◌≤◌, length, get_or, take, drop, set}
-use Rattle.std.proofs.Common.{sym, ap, ◌∙◌, subst, append-nil, append_assoc, add-one, arith, length-append, length-take, length-drop, drop_of_length-le, take_all, take-suc, drop-cons, take_at}
+use Rattle.std.proofs.Common.{sym, ap, ◌∙◌, subst, append-nil, append_assoc, add-one, arith}
+use Rattle.std.proofs.Common.{length-append, length-take, length-drop, drop_of_length-le, take_all, take-suc, drop-cons, take_at}
 use Rattle.std.proofs.Math.Decide.{dec_le}
 use Rattle.std.proofs.lemmas.List.{set_at, take-append-le}
 use Rattle.answer.specs.declared.Answer.{Answer}

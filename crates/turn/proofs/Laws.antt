@@ -194,6 +194,3 @@ none-answered h = record {
   count = refl;
   filled = refl;
 }
-
-pub last_fits : {n : ℕ} {kept before after : List ℕ} {r : ℕ} → AnswersLast n kept before after r → r ≤ length after
-last_fits {before = before} {r = r} f = omega (arith, f.count, ap length f.filled ∙ length-append f.printed (drop r before))

@@ -1,10 +1,17 @@
-// Each line of standard input is a text: its answer is printed, and the bytes that it makes. `write_block` and the functions after it read and write; all
+// Each line of standard input is a text: its answer is printed, and the bytes that it makes. `read_piece` and the functions after it read and write; all
 // else stands in the functions before it, over slices.
 #![tactic(auto)]
 
-ghost use Rattle.std.specs.Prelude.{◌≡◌, ◌≤◌, ◌<◌, length};
+ghost use Rattle.std.specs.Prelude.{◌≡◌, ◌≤◌, ◌<◌, length, IfOk};
 ghost use Rattle.lines.specs.Lines.{most};
 ghost use Rattle.turn.specs.Printed.{PrintsAnswer, most_printed, AnswersFront, AnswersPiece, AnswersLast, made_by};
+
+use std::env::{Env, FillError};
+use std::io;
+use std::io::{Read, Write};
+
+// The most bytes of a piece of the input, and of what is written at once.
+const PIECE: usize = 65536;
 
 // How many bytes of a piece of the input were answered, how many are kept of the line begun then, and how many were printed.
 #[derive(Clone, Copy)]
@@ -94,65 +101,52 @@ fn answer_last(line: &[u8], n: usize, out: &mut [u8]) -> usize
     0
 }
 
-// Writes a block of lines; a failure is told on standard error.
-fn write_block(block: &[u8]) -> bool {
-    if io::write_all(libc::STDOUT_FILENO, block) {
-        return true;
-    }
-    os::fail(b"turn: standard output");
-    false
-}
-
 // What is left of the piece that was read, or else the next one.
-fn read_piece(buf: &mut [u8], from: usize, to: usize) -> Piece
+fn read_piece<R: Read>(input: &mut R, buf: &mut [u8], from: usize, to: usize) -> io::Result<Piece>
     requires { to ≤ length buf.old }
-    ensures { (result.from ≤ result.to) × (result.to ≤ length buf.old) }
+    ensures { IfOk result (λ p. (p.from ≤ p.to) × (p.to ≤ length buf.old)) }
 {
     if from < to {
-        return Piece { from, to };
+        return Ok(Piece { from, to });
     }
-    let got = libc::read(libc::STDIN_FILENO, buf);
-    if got < 0 {
-        os::fail(b"turn: standard input");
-    }
-    let k = io::count(got, buf);
-    Piece { from: 0, to: k }
+    let k = input.read(buf)?;
+    Ok(Piece { from: 0, to: k })
 }
 
-// Reads, answers and writes, piece by piece, to the end of the input or a write that fails. The loop counts its turns down from a number that no run
-// uses up: nothing says that the input ends.
-fn run() {
-    let mut buf = io::large_buffer();
-    let mut out = io::large_buffer();
+// Reads, answers and writes, piece by piece, to the end of the input. Nothing says that the input ends, so the loop has a bound that no run comes to.
+fn run<R: Read, W: Write>(input: &mut R, output: &mut W) -> io::Result<()> {
+    let mut buf = [0u8; PIECE];
+    let mut out = [0u8; PIECE];
     let mut line = [0u8; lines::KEPT];
     let mut n = 0;
     let mut from = 0;
     let mut to = 0;
-    let mut more = true;
-    let mut turns = u64::MAX;
-    while turns > 0 && more {
-        let p = read_piece(&mut buf, from, to);
+    for _ in 0..u64::MAX {
+        let p = read_piece(input, &mut buf, from, to)?;
         let at = p.from;
         to = p.to;
+        if to == 0 {
+            let k = answer_last(&line, n, &mut out);
+            return output.write_all(&out[..k]);
+        }
         let a = answer_piece(&buf[at..to], &mut line, n, &mut out);
         n = a.n;
         from = at + a.used;
         let k = a.printed;
-        let wrote = write_block(&out[..k]);
-        more = wrote && 0 < to;
-        turns -= 1;
+        output.write_all(&out[..k])?;
     }
-    if to == 0 {
-        let k = answer_last(&line, n, &mut out);
-        write_block(&out[..k]);
-    }
+    Ok(())
 }
 
-// No argument is taken. The kit lets no program choose its exit status: what went wrong is told on standard error alone.
-fn main() {
-    if 1 < os::arg_count() {
-        io::write_all(libc::STDERR_FILENO, b"usage: turn < TEXTS\n");
-        return;
+// Whether the program was given an argument.
+fn has_argument(rt: &impl Env) -> bool {
+    let mut name = [0u8; 1];
+    !matches!(rt.arg(1, &mut name), Err(FillError::NotPresent))
+}
+
+fn main(rt: HostRuntime) -> io::Result<()> {
+    if has_argument(&rt) {
+        return eprintln!(rt; "usage: turn < TEXTS");
     }
-    run();
+    run(&mut rt.stdin(), &mut rt.stdout())
 }

@@ -8,6 +8,8 @@ use answer::Answer;
 use expression::Kind;
 use order::Mutable;
 use policy::State;
+use std::io;
+use std::io::Write;
 
 // The most bytes that a call has.
 const MOST: usize = 128;
@@ -163,54 +165,61 @@ fn counted(args: &[u8], at: usize) -> &[u8] {
 }
 
 // The calls on expressions.
-fn on_expression(name: &[u8], key: u32, args: &[u8]) {
+fn on_expression<W: Write>(out: &mut W, name: &[u8], key: u32, args: &[u8]) -> io::Result<()> {
     if key == PRIVILEGE {
-        expressions::check(name, Kind::Privilege, args);
+        expressions::check(out, name, Kind::Privilege, args)?;
     }
     if key == PROTECTION {
-        expressions::check(name, Kind::Protection, args);
+        expressions::check(out, name, Kind::Protection, args)?;
     }
     if key == SET {
-        expressions::set_of(name, args);
+        expressions::set_of(out, name, args)?;
     }
     if key == T1 {
         let at = 1 + arg_wide(args, 0);
-        expressions::meets(name, Mutable::T1, counted(args, 0), rest(args, at));
+        expressions::meets(out, name, Mutable::T1, counted(args, 0), rest(args, at))?;
     }
     if key == T2 {
         let at = 1 + arg_wide(args, 0);
-        expressions::meets(name, Mutable::T2, counted(args, 0), rest(args, at));
+        expressions::meets(out, name, Mutable::T2, counted(args, 0), rest(args, at))?;
     }
+    Ok(())
 }
 
 // Load and the requests; the bytes of change and bypass are those of 01's records 04 and 05.
-fn request(s: State, name: &[u8], key: u32, args: &[u8]) -> State {
+fn request<W: Write>(
+    out: &mut W,
+    s: State,
+    name: &[u8],
+    key: u32,
+    args: &[u8],
+) -> io::Result<State> {
     let slot = arg(args, 0);
     let second = arg(args, 1);
     let mode = arg(args, 2);
     if key == LOAD {
-        return calls::load(name, s, args);
+        return calls::load(out, name, s, args);
     }
     if key == BEGIN {
-        return calls::begin(name, s, slot, second);
+        return calls::begin(out, name, s, slot, second);
     }
     if key == END {
-        return calls::end(name, s, slot);
+        return calls::end(out, name, s, slot);
     }
     if key == ASK {
-        calls::ask(name, s, slot, second, mode);
-        return s;
+        calls::ask(out, name, s, slot, second, mode)?;
+        return Ok(s);
     }
     let at = 4 + arg_wide(args, 3);
     let x = counted(args, 3);
     let y = counted(args, at);
     if key == CHANGE {
-        return calls::change(name, s, slot, second, mode, x, y);
+        return calls::change(out, name, s, slot, second, mode, x, y);
     }
     if key == BYPASS {
-        return calls::bypass(name, s, slot, second, mode, x, y);
+        return calls::bypass(out, name, s, slot, second, mode, x, y);
     }
-    s
+    Ok(s)
 }
 
 // A state to begin with, or a part of it altered.
@@ -245,14 +254,15 @@ fn altered(s: State, key: u32, args: &[u8]) -> State {
 }
 
 // What is looked at: all requests, or a length of file 0.
-fn looked(s: State, name: &[u8], key: u32, args: &[u8]) {
+fn looked<W: Write>(out: &mut W, s: State, name: &[u8], key: u32, args: &[u8]) -> io::Result<()> {
     if key == FIVE {
-        calls::five(name, s);
+        calls::five(out, name, s)?;
     }
     if key == STORED {
         let m = policies::stored_length(s, arg_wide(args, 0));
-        write_answer(name, Answer::of(m));
+        write_answer(out, name, Answer::of(m))?;
     }
+    Ok(())
 }
 
 // The first three letters as a number.
@@ -264,42 +274,49 @@ fn key_of(words: &[u8]) -> u32 {
 }
 
 // A call: the one whose word it is.
-fn perform(s: State, name: &[u8], key: u32, args: &[u8]) -> State {
-    on_expression(name, key, args);
-    looked(s, name, key, args);
-    let after = request(s, name, key, args);
-    altered(after, key, args)
+fn perform<W: Write>(
+    out: &mut W,
+    s: State,
+    name: &[u8],
+    key: u32,
+    args: &[u8],
+) -> io::Result<State> {
+    on_expression(out, name, key, args)?;
+    looked(out, s, name, key, args)?;
+    let after = request(out, s, name, key, args)?;
+    Ok(altered(after, key, args))
 }
 
-fn call(s: State, name: &[u8], words: &[u8]) -> State {
+fn call<W: Write>(out: &mut W, s: State, name: &[u8], words: &[u8]) -> io::Result<State> {
     let args = decoded(words);
     let n = count(words);
-    perform(s, name, key_of(words), &args[..n])
+    perform(out, s, name, key_of(words), &args[..n])
 }
 
 // A line: its name and its call.
-fn line(s: State, text: &[u8]) -> State {
+fn line<W: Write>(out: &mut W, s: State, text: &[u8]) -> io::Result<State> {
     if arg(text, 0) == b'#' {
-        return s;
+        return Ok(s);
     }
     let colon = find(text, 0, b':');
     if colon == text.len() {
-        return call(s, text, text);
+        return call(out, s, text, text);
     }
     let start = colon + 2;
     if text.len() < start {
-        return s;
+        return Ok(s);
     }
-    call(s, &text[..colon], &text[start..])
+    call(out, s, &text[..colon], &text[start..])
 }
 
 // Line by line, from the fresh state on.
-pub(crate) fn run(input: &[u8]) {
+pub(crate) fn run<W: Write>(out: &mut W, input: &[u8]) -> io::Result<()> {
     let mut s = State::fresh();
     let mut from = 0;
     while from < input.len() {
         let end = find(input, from, b'\n');
-        s = line(s, &input[from..end]);
+        s = line(out, s, &input[from..end])?;
         from = end + 1;
     }
+    Ok(())
 }

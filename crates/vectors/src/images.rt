@@ -1,6 +1,8 @@
 // The longest image, made byte by byte (01, "Image": 51,815 bytes).
 use crate::calls::load;
 use policy::State;
+use std::io;
+use std::io::Write;
 
 // The longest image and a byte more; where its role count and its file count stand.
 const ROOM: usize = 51816;
@@ -11,8 +13,9 @@ const ROLE_COUNT: usize = 69;
 
 const FILE_COUNT: usize = 20454;
 
-fn fresh(name: &[u8], image: &[u8]) {
-    load(name, State::fresh(), image);
+fn fresh<W: Write>(out: &mut W, name: &[u8], image: &[u8]) -> io::Result<()> {
+    load(out, name, State::fresh(), image)?;
+    Ok(())
 }
 
 // A length byte and 48 bytes in order: 13 securons and two ranges under 14 AND.
@@ -62,45 +65,66 @@ fn full_image() -> [u8; ROOM] {
 }
 
 // The first n bytes.
-fn fresh_first(name: &[u8], image: &[u8], n: usize) {
+fn fresh_first<W: Write>(out: &mut W, name: &[u8], image: &[u8], n: usize) -> io::Result<()> {
     if n <= image.len() {
-        fresh(name, &image[..n]);
+        return fresh(out, name, &image[..n]);
     }
+    Ok(())
 }
 
 // The longest image, and that with a byte less or a byte more.
-fn longest() {
+fn longest<W: Write>(out: &mut W) -> io::Result<()> {
     let image = full_image();
-    fresh_first(b"the longest image", &image, LONGEST_IMAGE);
-    fresh_first(b"the longest, a byte less", &image, 51814);
-    fresh(b"the longest, a byte more", &image);
+    fresh_first(out, b"the longest image", &image, LONGEST_IMAGE)?;
+    fresh_first(out, b"the longest, a byte less", &image, 51814)?;
+    fresh(out, b"the longest, a byte more", &image)
 }
 
 // The longest image with a wrong byte far behind; then another before it, which decides.
-fn longest_wrong_late() {
+fn longest_wrong_late<W: Write>(out: &mut W) -> io::Result<()> {
     let mut image = full_image();
     image[51814] = 64;
-    fresh_first(b"the longest, its last byte wrong", &image, LONGEST_IMAGE);
+    fresh_first(
+        out,
+        b"the longest, its last byte wrong",
+        &image,
+        LONGEST_IMAGE,
+    )?;
     image[51813] = 3;
     image[51814] = 1;
-    fresh_first(b"the longest, not whole at its end", &image, LONGEST_IMAGE);
+    fresh_first(
+        out,
+        b"the longest, not whole at its end",
+        &image,
+        LONGEST_IMAGE,
+    )?;
     image[51766] = 49;
-    fresh_first(b"the longest, its last length 49", &image, LONGEST_IMAGE);
+    fresh_first(
+        out,
+        b"the longest, its last length 49",
+        &image,
+        LONGEST_IMAGE,
+    )
 }
 
 // The longest image with a wrong count or parent.
-fn longest_wrong_early() {
+fn longest_wrong_early<W: Write>(out: &mut W) -> io::Result<()> {
     let mut image = full_image();
     image[FILE_COUNT] = 33;
-    fresh_first(b"the longest, 33 files", &image, LONGEST_IMAGE);
+    fresh_first(out, b"the longest, 33 files", &image, LONGEST_IMAGE)?;
     image[ROLE_COUNT] = 33;
-    fresh_first(b"the longest, 33 roles", &image, LONGEST_IMAGE);
+    fresh_first(out, b"the longest, 33 roles", &image, LONGEST_IMAGE)?;
     image[68] = 63;
-    fresh_first(b"the longest, its last parent 63", &image, LONGEST_IMAGE);
+    fresh_first(
+        out,
+        b"the longest, its last parent 63",
+        &image,
+        LONGEST_IMAGE,
+    )
 }
 
-pub(crate) fn run() {
-    longest();
-    longest_wrong_late();
-    longest_wrong_early();
+pub(crate) fn run<W: Write>(out: &mut W) -> io::Result<()> {
+    longest(out)?;
+    longest_wrong_late(out)?;
+    longest_wrong_early(out)
 }

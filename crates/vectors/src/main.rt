@@ -9,9 +9,17 @@ mod images;
 mod output;
 mod policies;
 
-fn main() {
-    let mut input = io::large_buffer();
-    let n = io::read_full(libc::STDIN_FILENO, &mut input);
-    cases::run(&input[..n]);
-    images::run();
+use std::io;
+use std::io::{BufWriter, Read, Write};
+
+// The most bytes of the input that are read, and of the output that are written at once.
+const MOST: usize = 65536;
+
+fn main(rt: HostRuntime) -> io::Result<()> {
+    let mut input = Vec::new(rt.alloc());
+    rt.stdin().take(MOST as u64).read_to_end(&mut input)?;
+    let mut out = BufWriter::with_capacity(rt.alloc(), MOST, rt.stdout())?;
+    cases::run(&mut out, input.as_slice())?;
+    images::run(&mut out)?;
+    out.flush()
 }

@@ -1,5 +1,4 @@
 -- `collect` meets its contract: what was passed is kept, and no line end was in it. The measure is what is left of the input. Assumes nothing.
-use mathlib.Core.Path.{◌∙◌}
 use Prim.Native.Nat.{◌-◌}
 use lib.ListN.{length}
 use Rattle.lines.proofs.Laws.{Collecting}

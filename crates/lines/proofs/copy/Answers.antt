@@ -33,13 +33,10 @@ loop-i-preserved c =
     let q = c.requires in
     (omega arith, copy_more _ c.args.d _ c.loop-i.i (omega (arith, q.0)) _ _ _ _ c.loop-i.invariant.1 c.put-p.ensures)
 
-pub shape_of-out : goal.shape_of-out
-shape_of-out c = c.loop-i.invariant.1.long
-
 pub returns : goal.returns
 returns c =
     let a = c.args in
     let l = c.loop-i in
     let v = l.invariant in
     let e : l.i ≡ a.k = omega (arith, v.0, c.loop-i-test.false) in
-    subst (λ (z : ℕ). WrittenAt a.out.now a.at (take z a.t3) l.out l.p) e v.1
+    subst (λ (z : ℕ). WrittenAt a.out.now a.at (take z a.d) l.out l.p) e v.1

@@ -31,9 +31,6 @@ loop-i-preserved c =
     let q = c.requires in
     (omega arith, hexes-more _ c.args.b.now _ c.loop-i.i (omega (arith, q.0)) _ _ _ _ c.loop-i.invariant.1 c.hex-p.ensures)
 
-pub shape_of-out : goal.shape_of-out
-shape_of-out c = c.loop-i.invariant.1.long
-
 pub returns : goal.returns
 returns c =
     let a = c.args in

@@ -5,7 +5,6 @@ use Prim.Native.Nat.{ℕ, ◌≤◌}
 use native.Mathlib.Omega.{arith}
 use lib.ListN.{length, drop, set, length-set}
 use Rattle.script.specs.Script.{cut_line}
-use borrow.Author.Tests.{not-true, not-false}
 use Rattle.parkbox.proofs.tell_last.Goals as goal
 
 four-set : (l : List ℕ) → 4 ≤ length l → set (set (set (set l 0 99) 1 117) 2 116) 3 10 ≡ cut_line ++ drop 4 l
@@ -16,7 +15,7 @@ four-set (x ∷ y ∷ z ∷ []) h = absurd (omega arith)
 four-set (x ∷ y ∷ z ∷ w ∷ l) h = refl
 
 pub returns-then-not-left : goal.returns-then-not-left
-returns-then-not-left c = let none = not-true c.args.left c.if-not-left.true in rw none (refl, refl)
+returns-then-not-left c = rw c.if-not-left.true (refl, refl)
 
 pub bounds-out-1 : goal.bounds-out-1
 bounds-out-1 c = simp length-set (omega arith)
@@ -28,4 +27,4 @@ pub bounds-out-3 : goal.bounds-out-3
 bounds-out-3 c = simp length-set (omega arith)
 
 pub returns : goal.returns
-returns c = let some = not-false c.args.left c.if-not-left.false in rw some (refl, four-set c.args.out.now (omega arith))
+returns c = rw c.if-not-left.false (refl, four-set c.args.out.now (omega arith))

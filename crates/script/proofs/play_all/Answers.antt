@@ -4,32 +4,27 @@ use mathlib.Core.Path.{◌≡◌}
 use Prim.Native.Nat.{◌-◌}
 use lib.ListN.{length}
 use native.Mathlib.Omega.{arith}
+use borrow.Author.Tests.{not-true, not-false}
 use Rattle.script.proofs.Going.{going-first, stops, goes}
 use Rattle.script.proofs.play_all.Goals as goal
 
 pub loop-s-init : goal.loop-s-init
 loop-s-init c = going-first _ _ _ _ _ c.requires
 
-pub shape_of-out-then-not-told : goal.shape_of-out-then-not-told
-shape_of-out-then-not-told c =
-    let tell = c.tell-told in
-    let h : length tell.new.0 ≡ length c.args.out.now = omega (arith, tell.auto, c.loop-s.invariant.long) in
-    h
-
 pub returns-then-not-told : goal.returns-then-not-told
 returns-then-not-told c =
     let turn = c.loop-s in
     let play = c.play-played in
     let tell = c.tell-told in
-    stops turn.invariant play.result tell.new.0 tell.result play.ensures tell.ensures c.if-not-told.true
+    stops turn.invariant play.result tell.new.out tell.result play.ensures tell.ensures (not-true _ c.if-not-told.true)
 
 pub overflow_add-at : goal.overflow_add-at
 overflow_add-at c =
     let turn = c.loop-s in
     let play = c.play-played in
     let tell = c.tell-told in
-    let more = c.if-not-told.false in
-    let g = goes turn.invariant play.result tell.new.0 tell.result play.ensures tell.ensures more (omega (arith, tell.auto)) in
+    let more = not-false _ c.if-not-told.false in
+    let g = goes turn.invariant play.result tell.new.out tell.result play.ensures tell.ensures more (omega (arith, tell.auto)) in
     omega (arith, g.1.within, c.well_formed)
 
 pub offset_bounds-s-i : goal.offset_bounds-s-i
@@ -43,8 +38,8 @@ loop-s-smaller c =
     let turn = c.loop-s in
     let play = c.play-played in
     let tell = c.tell-told in
-    let more = c.if-not-told.false in
-    let g = goes turn.invariant play.result tell.new.0 tell.result play.ensures tell.ensures more (omega (arith, tell.auto)) in
+    let more = not-false _ c.if-not-told.false in
+    let g = goes turn.invariant play.result tell.new.out tell.result play.ensures tell.ensures more (omega (arith, tell.auto)) in
     omega (arith, g.0, g.1.within)
 
 pub loop-s-preserved : goal.loop-s-preserved
@@ -52,5 +47,5 @@ loop-s-preserved c =
     let turn = c.loop-s in
     let play = c.play-played in
     let tell = c.tell-told in
-    let more = c.if-not-told.false in
-    (goes turn.invariant play.result tell.new.0 tell.result play.ensures tell.ensures more (omega (arith, tell.auto))).1
+    let more = not-false _ c.if-not-told.false in
+    (goes turn.invariant play.result tell.new.out tell.result play.ensures tell.ensures more (omega (arith, tell.auto))).1

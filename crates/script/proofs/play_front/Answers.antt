@@ -21,6 +21,3 @@ returns c =
     let yes = c.if-not-may_play.false in
     front-window _ c.if-window-lt2.false extent.result extent.ensures fresh.result fresh.ensures load.result load.ensures _ _ _
     c.put_line-n.ensures _ _ (may.ensures.has-bytes yes) (may.ensures.has_room yes)
-
--- LEFT: slice-aggregate-put-all : tie.Need-slice-aggregate-put-all
--- LEFT: slice-aggregate-put-all c = search rules

@@ -1,8 +1,7 @@
 -- `script::put_all` meets its contract: what was passed of the bytes is written. The measure is what is left of them. Assumes nothing.
-use mathlib.Core.Path.{◌≡◌, subst}
+use mathlib.Core.Path.{subst}
 use mathlib.Core.List.{List}
-use Prim.Native.Nat.{ℕ, ◌-◌}
-use lib.ListN.{take}
+use Prim.Native.Nat.{ℕ}
 use lib.Seq.{take_all}
 use borrow.Author.Rules.{rules}
 use native.Mathlib.Omega.{arith}

@@ -12,7 +12,4 @@ slice_bounds-put_all-end c = sym (length-take-le _ _ c.print-long.ensures.fits)
 pub returns : goal.returns
 returns c =
     let print = c.print-long in
-    puts-line _ _ _ _ _ _ _ _ print.ensures (omega (arith, print.auto.1.1.1.0)) c.put_all.ensures
-
--- LEFT: slice-aggregate-print-2 : tie.Need-slice-aggregate-print-2
--- LEFT: slice-aggregate-print-2 c = search rules
+    puts-line _ _ _ _ _ _ _ _ print.ensures (omega (arith, print.auto)) c.put_all.ensures

@@ -1,6 +1,6 @@
 -- `script::run` meets its contract: each way out prints its part of what the input prints. Assumes nothing.
 use Rattle.script.proofs.Whole.{only-cut, image-short, image-whole}
-use borrow.Author.Rules.{rules}
+use borrow.Author.Tests.{not-true, not-false}
 use Rattle.script.proofs.run.Goals as goal
 
 pub returns-then-input-lt2 : goal.returns-then-input-lt2
@@ -12,7 +12,7 @@ returns-then-not-extent c =
     let fresh = c.fresh in
     let extent = c.image_extent-extent in
     image-short _ c.if-input-lt2.false extent.result extent.ensures
-    fresh.result fresh.ensures load.result load.ensures _ _ _ c.put_line-n.ensures c.if-not-extent.true
+    fresh.result fresh.ensures load.result load.ensures _ _ _ c.put_line-n.ensures (not-true _ c.if-not-extent.true)
 
 pub returns : goal.returns
 returns c =
@@ -20,8 +20,5 @@ returns c =
     let fresh = c.fresh in
     let extent = c.image_extent-extent in
     image-whole _ c.if-input-lt2.false extent.result extent.ensures
-    fresh.result fresh.ensures load.result load.ensures _ _ _ c.put_line-n.ensures _ _ c.if-not-extent.false
+    fresh.result fresh.ensures load.result load.ensures _ _ _ c.put_line-n.ensures _ _ (not-false _ c.if-not-extent.false)
     c.play_all.ensures
-
--- LEFT: slice-aggregate-put-all : tie.Need-slice-aggregate-put-all
--- LEFT: slice-aggregate-put-all c = search rules

@@ -13,6 +13,3 @@ returns-in-Cut c = told-as _ Cut _ _ _ _ _ c.in-Cut.is (refl, c.put_all.ensures)
 
 pub returns-in-Whole : goal.returns-in-Whole
 returns-in-Whole c = told-as _ (Whole _) _ _ _ _ _ c.in-Whole.is (refl, refl, c.put_line.ensures)
-
--- LEFT: slice-aggregate-put-all : tie.Need-slice-aggregate-put-all
--- LEFT: slice-aggregate-put-all c = search rules

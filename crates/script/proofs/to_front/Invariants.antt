@@ -1,8 +1,8 @@
 -- `script::to_front` meets its contract: what was passed stands at the front, and what is read lies further on. The measure is what is left to pass.
 -- Assumes nothing.
-use mathlib.Core.Path.{◌≡◌, ◌∙◌}
+use mathlib.Core.Path.{◌≡◌}
 use mathlib.Core.List.{◌++◌}
-use Prim.Native.Nat.{◌+◌, ◌-◌, ◌≤◌}
+use Prim.Native.Nat.{◌-◌, ◌≤◌}
 use lib.ListN.{length, take, drop}
 use lib.Seq.{slice}
 use Rattle.script.proofs.to_front.Given as goal

@@ -6,15 +6,14 @@ use Rattle.turn.proofs.answer_line.Goals as goal
 
 pub turned-printed-requires : goal.turned-printed-requires
 turned-printed-requires c =
-    let few = collected-few c₅.collect.ensures c.requires.2 c.requires.1 in
-    (omega (arith, few, c₅.collect.auto.0, c.requires.1), c.requires.3)
+    let few = collected-few c.collect-part.ensures c.requires.2 c.requires.1 in
+    (omega (arith, few, c.collect-part.auto, c.requires.1), c.requires.3)
 
 pub returns-then-part : goal.returns-then-part
-returns-then-part c =
-    (
-      line-answered c₈.collect.ensures c₂.before.before.before.if1.true c.turned-printed.ensures c.turned-printed.auto.1.1.0,
-      collects-some c₈.collect.ensures c.requires.0,
-    )
+returns-then-part c = (
+  line-answered c.collect-part.ensures c.if-part.true c.turned-printed.ensures (omega (arith, c.turned-printed.auto)),
+  collects-some c.collect-part.ensures c.requires.0,
+)
 
 pub returns : goal.returns
 returns c =

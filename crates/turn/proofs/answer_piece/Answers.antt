@@ -5,11 +5,10 @@ use Prim.Native.Nat.{◌-◌}
 use lib.ListN.{length}
 use native.Mathlib.Omega.{arith}
 use Rattle.turn.proofs.Laws.{front-none, front_fits, front-few, rest-length, then-lent}
-use borrow.Author.Tests.{leb-true, leb-false}
 use Rattle.turn.proofs.answer_piece.Goals as goal
 
 pub loop-used-init : goal.loop-used-init
-loop-used-init c = let c₃ = (goal.at.loop-used-init c).Start in (front-none _ _ _ _, c₃.requires.0, refl)
+loop-used-init c = (front-none _ _ _ _, c.requires.0, refl)
 
 pub overflow_sub-out : goal.overflow_sub-out
 overflow_sub-out c = front_fits c.loop-used.invariant.0
@@ -32,7 +31,7 @@ answer_line-next-requires c =
       omega (arith, rest-length c.args.piece.now c.loop-used.used, c.loop-used-test.true),
       inv.1,
       front-few inv.0 c.requires.1 c.requires.0,
-      omega (arith, rest-length c.loop-used.out c.loop-used.printed, leb-true 186 (length c.loop-used.out - c.loop-used.printed) c.if-out-printed-ge-PRINTED.true),
+      omega (arith, rest-length c.loop-used.out c.loop-used.printed, c.if-out-printed-ge-PRINTED.true),
     )
 
 pub overflow_add-used : goal.overflow_add-used
@@ -51,11 +50,13 @@ loop-used-smaller c =
 pub loop-used-preserved : goal.loop-used-preserved
 loop-used-preserved c =
     let inv = c.loop-used.invariant in
-    (then-lent inv.0 c.answer_line-next.ensures.0, c.answer_line-next.auto.1.0 ∙ inv.1, omega (arith, inv.2))
+    (then-lent inv.0 c.answer_line-next.ensures.0, omega (arith, c.answer_line-next.auto, inv.1), omega (arith, inv.2))
 
 pub returns-else-out-printed-ge-PRINTED : goal.returns-else-out-printed-ge-PRINTED
-returns-else-out-printed-ge-PRINTED c =
-    record { front = c.loop-used.invariant.0; stops = λ h. omega (arith, leb-false 186 (length c.loop-used.out - c.loop-used.printed) c.if-out-printed-ge-PRINTED.false) }
+returns-else-out-printed-ge-PRINTED c = record {
+  front = c.loop-used.invariant.0;
+  stops = λ h. omega (arith, c.if-out-printed-ge-PRINTED.false);
+}
 
 pub returns-after-loop-used : goal.returns-after-loop-used
 returns-after-loop-used c = record { front = c.loop-used.invariant.0; stops = λ h. absurd (omega arith) }

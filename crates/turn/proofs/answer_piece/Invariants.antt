@@ -8,7 +8,8 @@ use Rattle.turn.proofs.answer_piece.Given as goal
 
 abbrev pub invariant-loop-used : goal.invariant-loop-used
 invariant-loop-used l =
-    AnswersFront l.piece l.n l.initial.line l.initial.out (record { l.used = l.used; l.n = l.k; l.printed = l.printed }) l.line l.out × (length l.line ≡ 513) × (length l.out ≡ length l.initial.out)
+    AnswersFront l.piece l.n l.initial.line l.initial.out (record { used = l.used; n = l.k; printed = l.printed }) l.line l.out
+    × (length l.line ≡ 513) × (length l.out ≡ length l.initial.out)
 
 abbrev pub decreases-loop-used : goal.decreases-loop-used
 decreases-loop-used l = length l.piece - l.used

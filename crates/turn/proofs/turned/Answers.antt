@@ -9,5 +9,5 @@ slice_bounds-turn-end c = sym (length-take-le _ _ c.requires.0)
 
 pub returns : goal.returns
 returns c =
-    prints-it c.args.n c.args.line.now _ _ _ c.turn-a.ensures.0 c.turn-a.ensures.1 _ c.made-k.ensures _ _ _
+    prints-it c.args.n c.args.line.now _ _ _ c.turn-a.ensures.decides c.turn-a.ensures.leaves _ c.made-k.ensures _ _ _
     c.print.ensures
