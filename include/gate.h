@@ -128,13 +128,13 @@ static inline const char *gate_words(uint32_t number) {
 
 /*
  * No call uses a heap. A thread whose stack has this many bytes has enough for the call: measured
- * on the worst inputs that were found (a text of 512 opening parentheses needs 541 KB; the longest
- * image and its requests 236 KB in a replay, 317 KB on a box), with a margin, and tested in such a
+ * on the worst inputs that were found (a text of 512 opening parentheses needs 799 KB; the longest
+ * image and its requests 356 KB in a replay, 421 KB on a box), with a margin, and tested in such a
  * thread (tests/c/stack.c). That is not proved.
  */
-#define GATE_TEXT_STACK 655360   /* gate_text                                                    */
-#define GATE_REPLAY_STACK 327680 /* gate_replay                                                  */
-#define GATE_BOX_STACK 393216    /* every call on a box                                          */
+#define GATE_TEXT_STACK 983040   /* gate_text                                                    */
+#define GATE_REPLAY_STACK 425984 /* gate_replay                                                  */
+#define GATE_BOX_STACK 507904    /* every call on a box                                          */
 
 /* ---- The box ------------------------------------------------------------------------------- */
 

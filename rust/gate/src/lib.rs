@@ -23,13 +23,13 @@ pub const MOST_TEXT: usize = 512;
 
 /// As many bytes of stack as a thread has to have for [`turn_text`] and [`text_to_bytes`]
 /// (include/gate.h, "The stack").
-pub const TEXT_STACK: usize = 655_360;
+pub const TEXT_STACK: usize = 983_040;
 
 /// As many bytes of stack as a thread has to have for [`replay`] and [`replay_into`].
-pub const REPLAY_STACK: usize = 327_680;
+pub const REPLAY_STACK: usize = 425_984;
 
 /// As many bytes of stack as a thread has to have for the calls on a [`ParkBox`].
-pub const BOX_STACK: usize = 393_216;
+pub const BOX_STACK: usize = 507_904;
 
 /// The room did not suffice: it has the output's first bytes, as many as it holds.
 #[derive(Clone, Copy, Debug, PartialEq, Eq)]
