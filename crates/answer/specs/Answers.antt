@@ -1,5 +1,5 @@
 -- An answer by a list of conditions, in the paper's order: the first that does not hold decides (01, "Order"). Definitions only.
-use Rattle.std.specs.Prelude.{◌≡◌, List, [], ◌∷◌, ◌⊎◌, ℕ}
+use Rattle.std.specs.Prelude.{◌≡◌, List, [], ◌∷◌, ◌⊎◌, ℕ, ◌+◌, ◌*◌}
 use Rattle.answer.specs.declared.Answer.{Answer}
 use Rattle.answer.specs.Numbers.{done}
 
@@ -11,6 +11,10 @@ pub record Is (a : Answer) (n k : ℕ) : Type 0 where
 -- a grants: number 0, at whatever place
 abbrev pub Granted : Answer → Type 0
 Granted a = a.number ≡ done
+
+-- an answer as one number: its number, and 256 times its place
+abbrev pub packed : Answer → ℕ
+packed a = a.number + 256 * a.place
 
 -- what has to hold, and where it does not: the number of the refusal, and which place it names
 pub record Condition : Type 1 where

@@ -1,10 +1,10 @@
 // What every call gives back: a number and a place (01, "Numbers given back").
 #![tactic(auto)]
 
-ghost use Rattle.std.specs.Prelude.{◌≡◌, true, ◌↔◌};
-ghost use Rattle.answer.specs.Answers.{Is, Granted};
+ghost use Rattle.std.specs.Prelude.{◌≡◌, true, ◌↔◌, ◌<◌};
+ghost use Rattle.answer.specs.Answers.{Is, Granted, packed};
 
-// The numbers of 01's table by name.
+// The numbers of 01's table by name. They are numbers and no enum: C and the readers of formats take and pass them on as numbers.
 pub const DONE: u8 = 0;
 
 pub const MARK_WRONG: u8 = 1;
@@ -47,7 +47,7 @@ pub const TEXT_LONG: u8 = 19;
 
 pub const BUFFER_SHORT: u8 = 20;
 
-#[derive(Clone, Copy)]
+#[derive(Clone, Copy, PartialEq, Eq, Debug)]
 pub struct Answer {
     pub number: u8,
     pub place: usize,
@@ -73,5 +73,21 @@ impl Answer {
         ensures { (result ≡ true) ↔ Granted self }
     {
         self.number == DONE
+    }
+
+    // How many bytes a call made or gave out that names their count by a grant's place: a refusal none.
+    pub fn given(self) -> usize
+        ensures grant { Granted self → result ≡ self.place }
+        ensures refusal { (Granted self → ⊥) → result ≡ 0 }
+    {
+        if self.granted() { self.place } else { 0 }
+    }
+
+    // The answer as one number: its number, and 256 times its place.
+    pub fn packed(self) -> u32
+        requires { self.place < 65536 }
+        ensures { result ≡ packed self }
+    {
+        u32::from(self.number) + 256 * (self.place as u32)
     }
 }

@@ -1,17 +1,13 @@
 -- The box that callers keep: which bytes are the record of which call, and what a call does to the box. Definitions only.
-use Rattle.std.specs.Prelude.{◌≡◌, List, [], ◌∷◌, ◌++◌, ◌⊎◌, ℕ, ◌+◌, ◌*◌, length, drop}
+use Rattle.std.specs.Prelude.{◌≡◌, List, [], ◌∷◌, ◌++◌, ◌⊎◌, ℕ, length, drop}
 use Rattle.answer.specs.declared.Answer.{Answer}
-use Rattle.answer.specs.Answers.{Decides, Leaves}
+use Rattle.answer.specs.Answers.{Decides, Leaves, packed}
 use Rattle.policy.specs.declared.State.{State}
 use Rattle.policy.specs.State.{fresh_state}
 use Rattle.print.specs.Print.{PrintOf, print_conditions, print_grants}
 use Rattle.machine.specs.Machine.{Request, load, begin, end, ask, change, bypass, Step, GateEvent}
 use Rattle.records.specs.Records.{Recorded}
 use Rattle.door.specs.declared.BoxRecord.{BoxRecord}
-
--- an answer as one number: its number, and 256 times its place
-abbrev pub packed : Answer → ℕ
-packed a = a.number + 256 * a.place
 
 -- bytes that are no record are answered with a number that 01's table does not have, at place 0
 abbrev pub no_record : ℕ

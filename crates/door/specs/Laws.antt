@@ -3,7 +3,7 @@ use Rattle.std.specs.Prelude.{◌≡◌, refl, cond, List, [], ◌∷◌, ◌++�
 use Rattle.std.proofs.Common.{sym, ap, ap₂, ◌∙◌, subst, inl, inr, arith, ne_eqb}
 use Rattle.answer.specs.declared.Answer.{Answer}
 use Rattle.answer.specs.Numbers.{ill_formed}
-use Rattle.answer.specs.Answers.{Is, Decides, Leaves}
+use Rattle.answer.specs.Answers.{Is, Decides, Leaves, packed}
 use Rattle.answer.specs.Laws.{one_left}
 use Rattle.expression.specs.declared.Kind.TheVariants.{Protection}
 use Rattle.order.specs.Laws.{added-place}
@@ -18,13 +18,15 @@ use Rattle.machine.specs.Runs as runs
 use Rattle.machine.specs.Machine.{Request, load, begin, end, ask, change, bypass, Step, GateRun}
 use Rattle.machine.specs.Served.{request_of}
 use Rattle.machine.specs.Laws.{Same, one-step}
-use Rattle.records.specs.declared.Parted.{Parted}
-use Rattle.records.specs.Records.{Shape, Byte, Listed, code-01, code-02, code-03, code-04, code-05, code-06, code-10}
+use Rattle.records.specs.declared.Record.{Record}
+use Rattle.records.specs.declared.Shape.{Shape}
+use Rattle.records.specs.declared.Shape.TheVariants.{Byte}
+use Rattle.records.specs.Records.{Listed, code-01, code-02, code-03, code-04, code-05, code-06, code-10}
 use Rattle.records.specs.Records.{Field, Fields, none, next, Recorded, Stands}
 use Rattle.records.specs.Laws.{one-record}
 use Rattle.records.specs.Places.{stands-in-place, stands-alone}
 use Rattle.door.specs.declared.BoxRecord.{BoxRecord}
-use Rattle.door.specs.Box.{packed, no_record, Call, requests, prints, IsBoxRecord, begins, ends, asks, changes, bypasses, loads, a-print}
+use Rattle.door.specs.Box.{no_record, Call, requests, prints, IsBoxRecord, begins, ends, asks, changes, bypasses, loads, a-print}
 use Rattle.door.specs.Box.{CallDoes, requested, Makes, Refills, Called, Serves}
 use Rattle.door.specs.Inner.{Inside, field_at, request_at}
 
@@ -105,7 +107,7 @@ module _ {bs : List ℕ} where
   is_call code-10 (next a none) w = a-print w
 
 -- the record that stands in these bytes alone, by the places of its fields
-module _ (bs : List ℕ) (r : Parted) (w : Stands bs r) (h : r.end ≡ length bs) where
+module _ (bs : List ℕ) (r : Record) (w : Stands bs r) (h : r.end ≡ length bs) where
   alone-is : IsBoxRecord bs (call_for r.code w.fields) []
   alone-is =
       let v = w.recorded in
@@ -151,7 +153,7 @@ module _ (bs : List ℕ) (r : Parted) (w : Stands bs r) (h : r.end ≡ length bs
       subst (λ (c : Call). IsBoxRecord bs c []) e alone-is
 
 -- a record that is a load has that code
-pub load_code : {bs : List ℕ} {image : List ℕ} {r : Parted} (w : Stands bs r) → IsBoxRecord bs (requests (load image)) [] → r.code ≡ 6
+pub load_code : {bs : List ℕ} {image : List ℕ} {r : Record} (w : Stands bs r) → IsBoxRecord bs (requests (load image)) [] → r.code ≡ 6
 load_code w (loads v) = (one-record w.recorded v).0
 
 -- an answer has a number of two digits and a place below 65536: of a request

@@ -1,5 +1,5 @@
 -- Bytes are in order or have a place for 6, one and at most 48. Assumes nothing.
-use Rattle.std.specs.Prelude.{◌≡◌, List, ℕ, ◌≤◌}
+use Rattle.std.specs.Prelude.{List, ℕ, ◌≤◌}
 use Rattle.std.proofs.Common.{sym, ◌∙◌, inl, inr, ⊎_elim, arith}
 use Rattle.answer.specs.Laws.{AtMostOne, one-fault, no-fault}
 use Rattle.tree.specs.declared.Tree.{Tree}

@@ -1,21 +1,20 @@
 // What expressions in bytes mean (01, "Expressions and what they mean").
 #![tactic(auto)]
 
-ghost use Rattle.std.specs.Prelude.{◌≡◌, true, ◌&&◌, ◌||◌, ◌↔◌, ℕ, ◌<◌, ◌≤◌};
+ghost use Rattle.std.specs.Prelude.{◌≡◌, true, ◌&&◌, ◌||◌, ◌↔◌, ℕ, ◌<◌, length, get_or};
 ghost use Rattle.securon.specs.Sets.{◌∪◌, ◌≐◌, marked};
-ghost use Rattle.tree.specs.Tree.{Related, Climbs, Ready};
 ghost use Rattle.expression.specs.Expression.{Between};
 ghost use Rattle.expression.specs.Fronts.{Front, TermFront, Tests, TestsTerm, AddsTerm};
 ghost use Rattle.expression.specs.Bytes.{Right, SET, MeetsT1, MeetsT2};
 ghost use Rattle.expression.specs.declared.Kind.TheVariants.{Privilege, Protection};
 
-use securon::{Level, ROOM, Securon, SecuronSet};
-use tree::{Levels, Tree, related};
+use securon::{Level, Securon, SecuronSet};
+use tree::{Grown, related};
 
 // The most bytes that an expression has.
 pub const LONGEST: usize = 48;
 
-// The codes: 01 s; 02 s i j; 03 for AND; 04 for OR.
+// The codes: 01 s; 02 s i j; 03 for AND; 04 for OR. They are bytes of the published form, so they are numbers and no enum.
 pub const ONE: u8 = 1;
 
 pub const RANGE: u8 = 2;
@@ -24,11 +23,6 @@ pub const AND: u8 = 3;
 
 pub const OR: u8 = 4;
 
-// Length 0 has its own meaning: as T1 always met, as T2 never met.
-const EMPTY_T1_MET: bool = true;
-
-const EMPTY_T2_MET: bool = false;
-
 // A privilege expression has no OR; a protection expression may have it.
 #[derive(Clone, Copy)]
 pub enum Kind {
@@ -36,100 +30,100 @@ pub enum Kind {
     Protection,
 }
 
-// What a test of the expression at the front says: whether it is met, and how many bytes it has.
+// What a test of the expression at the front says: whether it is met, and how many bytes it has, met or not.
 #[derive(Clone, Copy)]
 struct Tested {
     met: bool,
     used: usize,
 }
 
-// Whether u is in SET(s[i downto j]): its level, which is at hand, lies from i to j, and it is related to s.
-fn between(parent: &[u8; ROOM], level: Level, s: Securon, i: Level, j: Level, u: Securon) -> bool
-    requires { Climbs parent.now u.0 × Climbs parent.now s.0 }
-    ensures { (result ≡ true) ↔ ((i.0 ≤ level.0) × (level.0 ≤ j.0) × Related parent.now u.0 s.0) }
-{
-    if i.over(level) {
-        return false;
-    }
-    if level.over(j) {
-        return false;
-    }
-    related(parent, u, s)
-}
-
-// Whether a member of SET(s[i downto j]) is held.
-fn meets_range(t: Tree, levels: Levels, held: SecuronSet, s: Securon, i: Level, j: Level) -> bool
-    requires { Ready t levels × (s.0 < t.n) }
-    ensures { (result ≡ true) ↔ ((u : ℕ) × Between t s.0 i.0 j.0 u × marked held.has u) }
-{
-    let n = t.n;
-    for k in 0..n {
-        if held.has[k] {
-            let u = k as u8;
-            if between(&t.parent, levels.of[k], s, i, j, Securon(u)) {
-                return true;
-            }
-        }
-    }
-    let nobody = false;
-    nobody
-}
-
-// The set with SET(s[i downto j]) added.
-fn with_range(
-    t: Tree,
-    levels: Levels,
-    set: SecuronSet,
+// A range term, s[i downto j].
+#[derive(Clone, Copy)]
+struct Range {
     s: Securon,
     i: Level,
     j: Level,
-) -> SecuronSet
-    requires { Ready t levels × (s.0 < t.n) }
-    ensures { marked result.has ≐ marked set.has ∪ Between t s.0 i.0 j.0 }
+}
+
+// Whether u is in SET(s[i downto j]): its level, which is at hand, lies from i to j, and it is related to s.
+fn between(g: &Grown, range: Range, u: Securon) -> bool
+    requires { (range.s.0 < g.now.tree.n) × (u.0 < g.now.tree.n) }
+    ensures { (result ≡ true) ↔ Between g.now.tree range.s.0 range.i.0 range.j.0 u.0 }
 {
-    let n = t.n;
+    let level = g.levels.of[u.0 as usize];
+    (range.i..=range.j).contains(&level) && related(&g.tree.parent, u, range.s)
+}
+
+// Whether a member of SET(s[i downto j]) is held.
+fn meets_range(g: &Grown, held: SecuronSet, range: Range) -> bool
+    requires { range.s.0 < g.now.tree.n }
+    ensures { (result ≡ true) ↔ ((u : ℕ) × Between g.now.tree range.s.0 range.i.0 range.j.0 u × marked held.has u) }
+{
+    held.has[..g.tree.n]
+        .iter()
+        .enumerate()
+        .any(|(u, has)| *has && between(g, range, Securon(u as u8)))
+}
+
+// The set with SET(s[i downto j]) added. (By number: behind an adapter of `iter_mut` there is no index that the invariant could speak of.)
+fn with_range(g: &Grown, set: SecuronSet, range: Range) -> SecuronSet
+    requires { range.s.0 < g.now.tree.n }
+    ensures { marked result.has ≐ marked set.has ∪ Between g.now.tree range.s.0 range.i.0 range.j.0 }
+{
     let mut r = set;
-    for k in 0..n {
-        let u = k as u8;
-        if between(&t.parent, levels.of[k], s, i, j, Securon(u)) {
-            r.has[k] = true;
+    for u in 0..g.tree.n {
+        if between(g, range, Securon(u as u8)) {
+            r.has[u] = true;
         }
     }
     r
 }
 
+// The range term at the front, over the securon s.
+fn range_at(s: Securon, rest: &[u8]) -> Range
+    requires { 3 < length rest.now }
+    ensures { (result.s.0 ≡ s.0) × (result.i.0 ≡ get_or rest.now 2 0) × (result.j.0 ≡ get_or rest.now 3 0) }
+{
+    Range {
+        s,
+        i: Level(rest[2]),
+        j: Level(rest[3]),
+    }
+}
+
 // Whether a member of the SET of the term at the front is held.
-fn meets_term(t: Tree, levels: Levels, held: SecuronSet, rest: &[u8]) -> bool
-    requires { Ready t levels × TermFront t.n rest.now }
-    ensures { TestsTerm t (marked held.has) rest.now result }
+fn meets_term(g: &Grown, held: SecuronSet, rest: &[u8]) -> bool
+    requires { TermFront g.now.tree.n rest.now }
+    ensures { TestsTerm g.now.tree (marked held.has) rest.now result }
 {
     let s = Securon(rest[1]);
+    prove!((s.0 as usize) < g.tree.n);
     if rest[0] == ONE {
-        return held.holds(s);
+        held.holds(s)
+    } else {
+        meets_range(g, held, range_at(s, rest))
     }
-    meets_range(t, levels, held, s, Level(rest[2]), Level(rest[3]))
 }
 
 // The set with the SET of the term at the front added.
-fn with_term(t: Tree, levels: Levels, set: SecuronSet, rest: &[u8]) -> SecuronSet
-    requires { Ready t levels × TermFront t.n rest.now }
-    ensures { AddsTerm t rest.now (marked set.has) (marked result.has) }
+fn with_term(g: &Grown, set: SecuronSet, rest: &[u8]) -> SecuronSet
+    requires { TermFront g.now.tree.n rest.now }
+    ensures { AddsTerm g.now.tree rest.now (marked set.has) (marked result.has) }
 {
     let s = Securon(rest[1]);
+    prove!((s.0 as usize) < g.tree.n);
     if rest[0] == ONE {
-        return set.with(s);
+        set.with(s)
+    } else {
+        with_range(g, set, range_at(s, rest))
     }
-    with_range(t, levels, set, s, Level(rest[2]), Level(rest[3]))
 }
 
 // How many bytes a term has, by its code.
 fn width(code: u8) -> usize
     ensures { (code ≡ 1 → result ≡ 2) × ((code ≡ 1 → ⊥) → result ≡ 4) }
 {
-    if code == ONE {
-        return 2;
-    }
-    4
+    if code == ONE { 2 } else { 4 }
 }
 
 // What an operator makes of its operands' answers.
@@ -137,32 +131,27 @@ fn joined(operator: u8, left: bool, right: bool) -> bool
     ensures { (operator ≡ 3 → result ≡ (left && right)) × ((operator ≡ 3 → ⊥) → result ≡ (left || right)) }
 {
     if operator == AND {
-        if left {
-            return right;
-        }
-        return false;
+        left && right
+    } else {
+        left || right
     }
-    if left {
-        return true;
-    }
-    right
 }
 
 // Whether a held set meets the expression at the front: a call per operand, over the remaining bytes.
-fn meets_front(t: Tree, levels: Levels, held: SecuronSet, rest: &[u8]) -> Tested
-    requires { Ready t levels × Front t.n rest.now }
-    ensures { Tests t (marked held.has) rest.now result.met result.used }
+fn meets_front(g: &Grown, held: SecuronSet, rest: &[u8]) -> Tested
+    requires { Front g.now.tree.n rest.now }
+    ensures { Tests g.now.tree (marked held.has) rest.now result.met result.used }
 {
     let code = rest[0];
     if code < AND {
         return Tested {
-            met: meets_term(t, levels, held, rest),
+            met: meets_term(g, held, rest),
             used: width(code),
         };
     }
-    let left = meets_front(t, levels, held, &rest[1..]);
+    let left = meets_front(g, held, &rest[1..]);
     let mid = 1 + left.used;
-    let right = meets_front(t, levels, held, &rest[mid..]);
+    let right = meets_front(g, held, &rest[mid..]);
     Tested {
         met: joined(code, left.met, right.met),
         used: mid + right.used,
@@ -170,45 +159,36 @@ fn meets_front(t: Tree, levels: Levels, held: SecuronSet, rest: &[u8]) -> Tested
 }
 
 // SET of a privilege or of an indelible part: the union of its terms' sets, whatever joins them.
-pub fn set_of(t: Tree, levels: Levels, b: &[u8]) -> SecuronSet
-    requires { Ready t levels × Right Privilege t.n levels.depth.0 b.now }
-    ensures { marked result.has ≐ SET t b.now }
+pub fn set_of(g: &Grown, b: &[u8]) -> SecuronSet
+    requires { Right Privilege g.now.tree.n g.now.levels.depth.0 b.now }
+    ensures { marked result.has ≐ SET g.now.tree b.now }
 {
     let mut r = SecuronSet::empty();
-    let mut at = 0usize;
-    while at < b.len() {
-        let rest = &b[at..];
+    let mut rest = b;
+    while !rest.is_empty() {
         let code = rest[0];
         if code == AND {
-            at += 1;
+            rest = &rest[1..];
         } else {
-            r = with_term(t, levels, r, rest);
-            at += width(code);
+            r = with_term(g, r, rest);
+            rest = &rest[width(code)..];
         }
     }
     r
 }
 
-// Whether a held set meets T1; of length 0 it is always met.
-pub fn meets_t1(t: Tree, levels: Levels, held: SecuronSet, b: &[u8]) -> bool
-    requires { Ready t levels × Right Protection t.n levels.depth.0 b.now }
-    ensures { (result ≡ true) ↔ MeetsT1 t (marked held.has) b.now }
+// Whether a held set meets T1; of length 0 it is always met. (T1 and T2 are two functions, since each is promised by its name.)
+pub fn meets_t1(g: &Grown, held: SecuronSet, b: &[u8]) -> bool
+    requires { Right Protection g.now.tree.n g.now.levels.depth.0 b.now }
+    ensures { (result ≡ true) ↔ MeetsT1 g.now.tree (marked held.has) b.now }
 {
-    if b.len() == 0 {
-        return EMPTY_T1_MET;
-    }
-    let front = meets_front(t, levels, held, b);
-    front.met
+    b.is_empty() || meets_front(g, held, b).met
 }
 
 // Whether a held set meets T2; of length 0 it is never met.
-pub fn meets_t2(t: Tree, levels: Levels, held: SecuronSet, b: &[u8]) -> bool
-    requires { Ready t levels × Right Protection t.n levels.depth.0 b.now }
-    ensures { (result ≡ true) ↔ MeetsT2 t (marked held.has) b.now }
+pub fn meets_t2(g: &Grown, held: SecuronSet, b: &[u8]) -> bool
+    requires { Right Protection g.now.tree.n g.now.levels.depth.0 b.now }
+    ensures { (result ≡ true) ↔ MeetsT2 g.now.tree (marked held.has) b.now }
 {
-    if b.len() == 0 {
-        return EMPTY_T2_MET;
-    }
-    let front = meets_front(t, levels, held, b);
-    front.met
+    !b.is_empty() && meets_front(g, held, b).met
 }

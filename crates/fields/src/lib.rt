@@ -1,127 +1,110 @@
 // Formats: specs/ has the notion, its laws, and what a reader of one tells; here are the readers that every format needs.
 #![tactic(auto)]
 
-ghost use Rattle.std.specs.Prelude.{◌≡◌, ◌<◌, ◌≤◌, length};
+ghost use Rattle.std.specs.Prelude.{◌≡◌, ◌<◌, length, drop};
+ghost use Rattle.answer.specs.Numbers.{ends_early};
 ghost use Rattle.fields.specs.Parts.{byte, word, low_first};
-ghost use Rattle.fields.specs.Reading.{NumberRead, Ends};
+ghost use Rattle.fields.specs.Reading.{NumberRead, Ranged, Ends};
 
 use answer::{Answer, DONE, ENDS_EARLY, LEFT_OVER};
 
-// What comes of a format that is read from a place on: it is taken, and the next begins at a place; or it is refused, with a number and a place.
-#[derive(Clone, Copy)]
-pub enum Met {
-    Read(usize),
-    Refused(u8, usize),
+// What is read from a place on: its value, and the place where the next begins.
+#[derive(Clone, Copy, Debug, PartialEq, Eq)]
+pub struct Read<T> {
+    pub value: T,
+    pub next: usize,
 }
 
-// What comes of a number, and its value.
-#[derive(Clone, Copy)]
-pub struct NumberMet {
-    pub met: Met,
-    pub value: usize,
-}
-
-fn wide(x: u8) -> usize
-    ensures { result ≡ x }
-{
-    x as usize
+// What is refused: the number of the refusal, and the place that is at fault.
+#[derive(Clone, Copy, Debug, PartialEq, Eq)]
+pub struct Refused {
+    pub number: u8,
+    pub place: usize,
 }
 
 // A number of 16 bits, low byte first.
 pub fn low_first(low: u8, high: u8) -> usize
     ensures { (result ≡ low_first low high) × (result < 65536) }
 {
-    low as usize + 256 * (high as usize)
+    usize::from(u16::from_le_bytes([low, high]))
 }
 
-// One byte, from `low` to `high`. Where it is missing or refused, `low` stands for its value.
-pub fn read_byte(bytes: &[u8], from: Met, low: usize, high: usize, number: u8) -> NumberMet
-    requires { low ≤ high }
+// The bytes from a place on; past their end there are none.
+fn onward(bytes: &[u8], at: usize) -> &[u8]
+    ensures { result.now ≡ drop at bytes.now }
+{
+    bytes.get(at..).unwrap_or(&[])
+}
+
+// Where the bytes end too early.
+fn early(bytes: &[u8]) -> Refused
+    ensures { result ≡ record { number = ends_early; place = length bytes.now } }
+{
+    Refused {
+        number: ENDS_EARLY,
+        place: bytes.len(),
+    }
+}
+
+// A number whose bytes begin at one place and end before the next: from `low` to `high`, or refused where they begin.
+fn in_range(
+    value: usize,
+    at: usize,
+    next: usize,
+    low: usize,
+    high: usize,
+    number: u8,
+) -> Result<Read<usize>, Refused>
+    ensures { Ranged low high number value at next result }
+{
+    if value < low || high < value {
+        return Err(Refused { number, place: at });
+    }
+    Ok(Read { value, next })
+}
+
+// One byte, from `low` to `high`. (Not one function over the width with `read_word`: given how to make the value, it would have a bound `Fn` over
+// an array of the width, which the checker does not cover.)
+pub fn read_byte(
+    bytes: &[u8],
+    from: Result<usize, Refused>,
+    low: usize,
+    high: usize,
+    number: u8,
+) -> Result<Read<usize>, Refused>
     ensures { NumberRead byte bytes.now from low high number result }
 {
-    let Met::Read(at) = from else {
-        return NumberMet {
-            met: from,
-            value: low,
-        };
+    let at = from?;
+    let [byte, ..] = onward(bytes, at) else {
+        return Err(early(bytes));
     };
-    if bytes.len() <= at {
-        return NumberMet {
-            met: Met::Refused(ENDS_EARLY, bytes.len()),
-            value: low,
-        };
-    }
-    let value = wide(bytes[at]);
-    if value < low {
-        return NumberMet {
-            met: Met::Refused(number, at),
-            value: low,
-        };
-    }
-    if high < value {
-        return NumberMet {
-            met: Met::Refused(number, at),
-            value: low,
-        };
-    }
-    NumberMet {
-        met: Met::Read(at + 1),
-        value,
-    }
+    in_range(usize::from(*byte), at, at + 1, low, high, number)
 }
 
-// A number of 16 bits, from `low` to `high`, judged once both its bytes are there. Where it is missing or refused, `low` stands for its value.
-pub fn read_word(bytes: &[u8], from: Met, low: usize, high: usize, number: u8) -> NumberMet
-    requires { low ≤ high }
+// A number of 16 bits, from `low` to `high`, judged once both its bytes are there.
+pub fn read_word(
+    bytes: &[u8],
+    from: Result<usize, Refused>,
+    low: usize,
+    high: usize,
+    number: u8,
+) -> Result<Read<usize>, Refused>
     ensures { NumberRead word bytes.now from low high number result }
 {
-    let Met::Read(at) = from else {
-        return NumberMet {
-            met: from,
-            value: low,
-        };
+    let at = from?;
+    let [first, second, ..] = onward(bytes, at) else {
+        return Err(early(bytes));
     };
-    let early = NumberMet {
-        met: Met::Refused(ENDS_EARLY, bytes.len()),
-        value: low,
-    };
-    if bytes.len() <= at {
-        return early;
-    }
-    let second = at + 1;
-    if bytes.len() <= second {
-        return early;
-    }
-    let value = low_first(bytes[at], bytes[second]);
-    if value < low {
-        return NumberMet {
-            met: Met::Refused(number, at),
-            value: low,
-        };
-    }
-    if high < value {
-        return NumberMet {
-            met: Met::Refused(number, at),
-            value: low,
-        };
-    }
-    NumberMet {
-        met: Met::Read(at + 2),
-        value,
-    }
+    in_range(low_first(*first, *second), at, at + 2, low, high, number)
 }
 
 // The answer where nothing is to follow what was read.
-pub fn answer_at_end(bytes: &[u8], met: Met) -> Answer
+pub fn answer_at_end(bytes: &[u8], met: Result<usize, Refused>) -> Answer
     ensures { Ends bytes.now met result }
 {
     match met {
-        Met::Refused(number, place) => Answer::at(number, place),
-        Met::Read(at) => {
-            if at < bytes.len() {
-                return Answer::at(LEFT_OVER, at);
-            }
-            Answer::of(DONE)
-        }
+        Err(refused) => Answer::at(refused.number, refused.place),
+        Ok(next) if next < bytes.len() => Answer::at(LEFT_OVER, next),
+        Ok(_) => Answer::of(DONE),
     }
 }

@@ -1,6 +1,6 @@
 -- Of change and bypass: each leaves one answer and one state, a grant tells what its conditions say, a well-formed state stays well formed, and the answer's
 -- number and place have few digits. Assumes nothing.
-use Rattle.std.specs.Prelude.{◌≡◌, refl, List, [], ◌∷◌, ℕ}
+use Rattle.std.specs.Prelude.{refl, List, [], ◌∷◌, ℕ}
 use Rattle.std.proofs.Common.{arith}
 use Rattle.answer.specs.declared.Answer.{Answer}
 use Rattle.answer.specs.Answers.{Granted, DecidesAt}

@@ -7,7 +7,6 @@ use Rattle.answer.specs.declared.Answer.{Answer}
 use Rattle.answer.specs.Answers.{Condition, Granted, DecidesAt, AllHold}
 use Rattle.answer.specs.Laws.{AtMostOne, OnePlaceEach, said, one_answer, one_left}
 use Rattle.answer.specs.Lists.{refuses, granted-all}
-use Rattle.tree.specs.Laws.{one-depth}
 use Rattle.expression.specs.declared.Kind.{Kind}
 use Rattle.expression.specs.declared.Kind.TheVariants.{Privilege, Protection}
 use Rattle.order.specs.Conditions.{expression_conditions}
@@ -15,13 +14,13 @@ use Rattle.order.specs.Laws.{expression-places}
 use Rattle.policy.specs.declared.State.{State}
 use Rattle.policy.specs.State.{By, hold_of, change_protection}
 use Rattle.policy.specs.WellFormed.{WellFormed}
-use Rattle.policy.specs.Kept.{by-kept, free-kept, t1t2-kept, eg-kept}
+use Rattle.policy.specs.Kept.{by-kept, free-kept}
 use Rattle.policy.specs.Reads.{hold-here}
 use Rattle.gate.specs.declared.Effect.{Effect}
 use Rattle.gate.specs.Requests.{Outcome, begin_conditions, session_conditions, end_conditions, row_conditions, ask_conditions, store_conditions}
-use Rattle.gate.specs.Requests.{covered, change_conditions, bypass_conditions, Does, Begins, Ends, Asks, Changes, Bypasses}
+use Rattle.gate.specs.Requests.{covered, change_conditions, bypass_conditions, Does, Begins, Ends, Asks}
 use Rattle.gate.specs.Effects.{outcome, Tells}
-use Rattle.gate.specs.Granted.{BeginGranted, SessionGranted, RowGranted, AskGranted, StoreGranted, ChangeGranted, BypassGranted}
+use Rattle.gate.specs.Granted.{BeginGranted, SessionGranted, RowGranted, AskGranted, StoreGranted}
 
 -- each refusal of each request names one place
 module _ (s : State) (slot : ℕ) where

@@ -1,16 +1,15 @@
 -- A request's number has at most two digits; its place has one, and three where it names an expression's. (Of change and bypass that stands in
 -- proofs/Altering.) Assumes nothing.
-use Rattle.std.specs.Prelude.{◌≡◌, refl, List, [], ◌∷◌, ◌++◌, ℕ, suc, ◌<◌}
+use Rattle.std.specs.Prelude.{◌≡◌, refl, List, ◌++◌, ℕ, suc, ◌<◌}
 use Rattle.std.proofs.Common.{arith}
 use Rattle.answer.specs.declared.Answer.{Answer}
 use Rattle.answer.specs.Answers.{Condition, DecidesAt}
 use Rattle.answer.specs.Lists.{PlacesUnder, Under, answer-under}
 use Rattle.expression.specs.declared.Kind.{Kind}
-use Rattle.expression.specs.declared.Kind.TheVariants.{Privilege, Protection}
 use Rattle.order.specs.Conditions.{second, expression_conditions}
 use Rattle.order.specs.Laws.{added-place}
 use Rattle.policy.specs.declared.State.{State}
-use Rattle.gate.specs.Requests.{begin_conditions, end_conditions, ask_conditions, store_conditions, covered, change_conditions, bypass_conditions}
+use Rattle.gate.specs.Requests.{begin_conditions, end_conditions, ask_conditions, store_conditions}
 
 -- a number of two digits, and a place below m
 abbrev pub Small : ℕ → Answer → Type 0

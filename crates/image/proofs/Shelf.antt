@@ -1,5 +1,5 @@
 -- A shelf holds expressions: what is put at a place joins those that it holds; how they are read, place after place. Assumes nothing.
-use mathlib.Core.Path.{◌≡◌, refl, sym, ap, ap₂, ◌∙◌, subst}
+use mathlib.Core.Path.{◌≡◌, refl, sym, ap, ap₂, ◌∙◌, subst, subst₂}
 use mathlib.Core.Bool.{Bool}
 use mathlib.Core.List.{List, [], ◌∷◌, ◌++◌, map, flat_map, append_assoc}
 use Prim.Native.Nat.{ℕ, zero, suc, ◌+◌, ◌*◌, ◌-◌, ◌<◌, ◌≤◌}
@@ -7,27 +7,28 @@ use native.Mathlib.Decide.{ℕ_discrete}
 use native.Mathlib.Numerals.{add-one}
 use native.Mathlib.Omega.{arith}
 use lib.ListN.{length, take, drop, get_or, set, replicate, length-map, length-set, length-replicate, get_or-replicate, replicate-append-replicate}
-use lib.Seq.{take_all, take-suc-set, take-append-add, drop-append-add, get_or-set_same, get_or-set_other, set-get_or}
+use lib.Seq.{take_all, take-suc-set, take-append-add, drop-append-add, get_or-set_same, get_or-set_other}
 use Rattle.answer.specs.Numbers.{expression_wrong}
 use Rattle.expression.specs.declared.Kind.{Kind}
 use Rattle.expression.specs.declared.Kind.TheVariants.{Privilege}
 use Rattle.expression.specs.Bytes.{longest}
+use Rattle.policy.specs.declared.Role.{Role}
+use Rattle.policy.specs.declared.File.{File}
 use Rattle.shelf.specs.Shelf.{padded, put_bytes, PutAt}
 use Rattle.shelf.specs.Fine.{kind_at}
 use Rattle.shelf.specs.Laws.{length-padded}
-use Rattle.policy.specs.declared.Role.{Role}
-use Rattle.policy.specs.declared.File.{File}
-use Rattle.fields.specs.declared.Met.{Met}
-use Rattle.fields.specs.declared.Met.TheVariants.{Read, Refused}
-use Rattle.fields.specs.declared.NumberMet.{NumberMet}
+use Rattle.std.specs.Prelude.{Result}
+use Rattle.std.specs.declared.result.Result.TheVariants.{Ok, Err}
+use Rattle.fields.specs.declared.Read.{Read}
+use Rattle.fields.specs.declared.Refused.{Refused}
 use Rattle.fields.specs.Format.{Format}
 use Rattle.fields.specs.Combine.{times}
 use Rattle.fields.specs.Parts.{between, byte}
-use Rattle.fields.specs.Reading.{Reads, ReadsSome, NumberRead}
-use Rattle.fields.specs.Readings.{reads-stays, reads-refused, reads-give, reads_then, reads_more}
+use Rattle.fields.specs.Reading.{Met, read_to, Reads, ReadsSome, NumberRead}
+use Rattle.fields.specs.Readings.{reads-give, reads_then, then-refused, reads_more, times-refused}
 use Rattle.image.specs.Image.{Expressions, no_expression, stated, expression, shelf}
-use Rattle.image.specs.Load.{as_role, as_file}
 use Rattle.image.specs.Reading.{ReadsAs, Short, Holds, Stocked, PutRead, kinds_of, ShelfRead}
+use Rattle.image.specs.Load.{as_role, as_file}
 use Rattle.image.specs.Made.{room-length, kinds-are}
 use Rattle.image.proofs.Stated.{Found, stated-found}
 
@@ -109,57 +110,52 @@ stocked-none places =
       };
     }
 
--- an expression with its length byte: it is not met or refused, and nothing is stored; or it is stored
-module _ (kind : Kind) (n d : ℕ) (bs : List ℕ) {from : Met} {r : NumberMet}
-    (lead : NumberRead byte bs from 0 longest expression_wrong r)
-  where
+-- an expression with its length byte: where either is refused nothing is stored, else it is stored
+module _ (kind : Kind) (n d : ℕ) (bs : List ℕ) {from : Result ℕ Refused} where
+  pub part-led : {e : Refused} → NumberRead byte bs from 0 longest expression_wrong (Err e) → (k : ℕ) {lens bytes : List ℕ}
+      → PutRead kind n d bs from k lens bytes lens bytes (Err e)
+  unfolding expression
+  part-led {e} lead k =
+      (then-refused (byte (between 0 longest) no_expression) (stated kind (n - 1) d) bs from e (lead.reads no_expression.listed), refl, refl)
+
+  module _ {r : Read ℕ} (lead : NumberRead byte bs from 0 longest expression_wrong (Ok r)) where
     abbrev Rest : Format (List ℕ)
     Rest = stated kind (n - 1) d r.value
 
-    led : (o : Met) (v : List ℕ) → Reads Rest bs r.met o v → Reads (expression kind (n - 1) d) bs from o v
+    led : (o : Met (List ℕ)) → Reads Rest bs (Ok r.next) o → Reads (expression kind (n - 1) d) bs from o
     unfolding expression
-    led o v f =
-        reads_then (byte (between 0 longest) no_expression) (stated kind (n - 1) d) bs from r.met o r.value v (lead.reads no_expression.listed) f
+    led o f =
+        reads_then (byte (between 0 longest) no_expression) (stated kind (n - 1) d) bs from r.value r.next o (lead.reads no_expression.listed) f
 
-    -- where what comes is refused, whatever the value, the shelf holds what it held
-    kept : (k : ℕ) {lens bytes : List ℕ} (o : Met) → ((v : List ℕ) → Reads Rest bs r.met o v) → PutRead kind n d bs from k lens bytes lens bytes o
-    kept k {lens} {bytes} o f xs holds h =
-        let v = get_or xs k [] in
-        (v, led o v (f v), subst (λ (ys : Expressions). Holds ys lens bytes) (sym (set-get_or xs k [])) holds)
+    pub part-refused : (e : Refused) → ReadsSome Rest bs (Ok r.next) (Err e) → (k : ℕ) {lens bytes : List ℕ}
+        → PutRead kind n d bs from k lens bytes lens bytes (Err e)
+    part-refused e w k = (led (Err e) w, refl, refl)
 
-    pub part-led : (k : ℕ) {lens bytes : List ℕ} {i j : ℕ} → r.met ≡ Refused i j → PutRead kind n d bs from k lens bytes lens bytes r.met
-    part-led k e = kept k r.met (λ v. reads-stays Rest bs v e)
+    -- the bytes of the expression
+    pub part-found : (end : ℕ) (w : ReadsSome Rest bs (Ok r.next) (Ok end)) → Found r.value bs r.next end w.0
+    part-found end w = stated-found kind (n - 1) d r.value bs r.next {end = end} lead.in_range.2 w
 
-    module _ {at : ℕ} (e : r.met ≡ Read at) {o : Met} (w : ReadsSome (stated kind (n - 1) d r.value) bs (Read at) o) where
-      from-there : (v : List ℕ) → Reads Rest bs (Read at) o v → Reads Rest bs r.met o v
-      from-there v f = subst (λ (m : Met). Reads Rest bs m o v) (sym e) f
-
-      pub part-refused : (k : ℕ) {lens bytes : List ℕ} {i j : ℕ} → o ≡ Refused i j → PutRead kind n d bs from k lens bytes lens bytes o
-      part-refused k q = kept k o (λ v. from-there v (reads-refused Rest bs (Read at) w.value v q w.reads))
-
-      -- the bytes of the expression
-      pub part-found : {end : ℕ} → o ≡ Read end → Found r.value bs at end w.value
-      part-found q = stated-found kind (n - 1) d r.value bs at (lead.within at e) w q
-
-      pub part-stored : (k : ℕ) {end : ℕ} → o ≡ Read end → {lens bytes lens' bytes' : List ℕ} → PutAt lens bytes k (take (end - at) (drop at bs)) lens' bytes'
-          → PutRead kind n d bs from k lens bytes lens' bytes' (Read end)
-      part-stored k {end} q {lens} {bytes} {lens'} {bytes'} put xs holds h =
-          let found = part-found q in
-          let v = w.value in
-          let stored = subst (λ (x : List ℕ). PutAt lens bytes k x lens' bytes') found.is put in
-          let read = subst (λ (m : Met). Reads (expression kind (n - 1) d) bs from m v) q (led o v (from-there v w.reads)) in
-          (v, read, holds-put holds k h v (omega (arith, found.long, lead.most)) stored)
+    pub part-stored : (k end : ℕ) → ReadsSome Rest bs (Ok r.next) (Ok end) → {lens bytes lens' bytes' : List ℕ}
+        → PutAt lens bytes k (take (end - r.next) (drop r.next bs)) lens' bytes' → PutRead kind n d bs from k lens bytes lens' bytes' (Ok end)
+    part-stored k end w {lens} {bytes} {lens'} {bytes'} put xs holds h =
+        let found = part-found end w in
+        let v = w.0 in
+        let stored = subst (λ (x : List ℕ). PutAt lens bytes k x lens' bytes') found.is put in
+        (v, led (read_to v end) w.1, holds-put holds k h v (omega (arith, found.long, lead.in_range.1)) stored)
 
 -- the places passed: the shelf has its room, and what it holds there is what was read
-pub record Passed (file : Bool) (n d : ℕ) (bs : List ℕ) (from : Met) (k : ℕ) (lens bytes : List ℕ) (met : Met) : Type 0 where
+pub record Passed (file : Bool) (n d : ℕ) (bs : List ℕ) (from : Result ℕ Refused) (k : ℕ) (lens bytes : List ℕ) (next : ℕ) : Type 0 where
   pub stock : Stocked (length (kinds_of file)) lens bytes
-  pub reads : Reads (times k (λ i. expression (get_or (kinds_of file) i Privilege) (n - 1) d)) bs from met (take k stock.all)
+  pub reads : Reads (times k (λ i. expression (get_or (kinds_of file) i Privilege) (n - 1) d)) bs from (read_to (take k stock.all) next)
 
-module _ (file : Bool) (n d : ℕ) (bs : List ℕ) {from : Met} where
-  pub passed_none : {lens bytes : List ℕ} → Stocked (length (kinds_of file)) lens bytes → Passed file n d bs from 0 lens bytes from
-  passed_none s = record { stock = s; reads = reads-give [] bs from }
+module _ (file : Bool) (n d : ℕ) (bs : List ℕ) where
+  abbrev each : ℕ → Format (List ℕ)
+  each i = expression (get_or (kinds_of file) i Privilege) (n - 1) d
 
-  module _ {k : ℕ} {lens bytes : List ℕ} {met : Met} (p : Passed file n d bs from k lens bytes met) where
+  pub passed_none : {at : ℕ} {lens bytes : List ℕ} → Stocked (length (kinds_of file)) lens bytes → Passed file n d bs (Ok at) 0 lens bytes at
+  passed_none {at} s = record { stock = s; reads = reads-give [] bs at }
+
+  module _ {from : Result ℕ Refused} {k : ℕ} {lens bytes : List ℕ} {next : ℕ} (p : Passed file n d bs from k lens bytes next) where
     -- the room of the shelf
     pub passed-lengths : length lens ≡ length (kinds_of file)
     passed-lengths = holds-lengths p.stock.holds ∙ p.stock.count
@@ -167,36 +163,47 @@ module _ (file : Bool) (n d : ℕ) (bs : List ℕ) {from : Met} where
     pub passed-room : length bytes ≡ longest * length (kinds_of file)
     passed-room = stocked-room p.stock
 
-    pub passed-more : k < length (kinds_of file) → {kind : Kind} → kind ≡ kind_at file k → {met' : Met} {lens' bytes' : List ℕ}
-        → PutRead kind n d bs met k lens bytes lens' bytes' met' → Passed file n d bs from (k + 1) lens' bytes' met'
-    passed-more h {kind} e {met'} part =
-        let xs = p.stock.all in
-        let l : k < length xs = omega (arith, p.stock.count) in
-        let (v, f, holds) = part xs p.stock.holds l in
-        let one = subst (λ (q : Kind). Reads (expression q (n - 1) d) bs met met' v) (e ∙ sym (kinds-are file k h)) f in
-        let each : ℕ → Format (List ℕ) = λ i. expression (get_or (kinds_of file) i Privilege) (n - 1) d in
-        let all : take k xs ++ (v ∷ []) ≡ take (k + 1) (set xs k v) = sym (ap (λ (i : ℕ). take i (set xs k v)) (add-one k) ∙ take-suc-set xs k v l) in
-        record {
-          stock = record { all = set xs k v; count = length-set xs k v ∙ p.stock.count; holds = holds };
-          reads = subst (Reads (times (k + 1) each) bs from met') all (reads_more k each bs from met met' (take k xs) v p.reads one);
-        }
+    module _ (h : k < length (kinds_of file)) {kind : Kind} (e : kind ≡ kind_at file k) where
+      of-kind : (o : Met (List ℕ)) → Reads (expression kind (n - 1) d) bs (Ok next) o → Reads (each k) bs (Ok next) o
+      of-kind o f = subst (λ (q : Kind). Reads (expression q (n - 1) d) bs (Ok next) o) (e ∙ sym (kinds-are file k h)) f
 
-    pub passed-all : k ≡ length (kinds_of file) → ShelfRead (shelf (kinds_of file) (n - 1) d) bs from lens bytes met
+      -- one place more, or its refusal
+      pub passed-more : {lens' bytes' : List ℕ} (next' : ℕ) → PutRead kind n d bs (Ok next) k lens bytes lens' bytes' (Ok next')
+          → Passed file n d bs from (k + 1) lens' bytes' next'
+      passed-more next' part =
+          let xs = p.stock.all in
+          let l : k < length xs = omega (arith, p.stock.count) in
+          let (v, f, holds) = part xs p.stock.holds l in
+          let one = of-kind (read_to v next') f in
+          let all : take k xs ++ (v ∷ []) ≡ take (k + 1) (set xs k v) = sym (ap (λ (i : ℕ). take i (set xs k v)) (add-one k) ∙ take-suc-set xs k v l) in
+          record {
+            stock = record { all = set xs k v; count = length-set xs k v ∙ p.stock.count; holds = holds };
+            reads = subst (λ (vs : Expressions). Reads (times (k + 1) each) bs from (read_to vs next')) all
+                (reads_more each bs from k (take k xs) next v next' p.reads one);
+          }
+
+      pub passed-refused : {lens' bytes' : List ℕ} (r : Refused) → PutRead kind n d bs (Ok next) k lens bytes lens' bytes' (Err r)
+          → ShelfRead (shelf (kinds_of file) (n - 1) d) bs from lens' bytes' (Err r)
+      unfolding shelf
+      passed-refused r (f, l, b) =
+          let xs = p.stock.all in
+          let holds = subst₂ (Holds xs) (sym l) (sym b) p.stock.holds in
+          (times-refused each bs from k (length (kinds_of file)) (take k xs) next r h p.reads (of-kind (Err r) f), (xs, holds))
+
+    pub passed-all : k ≡ length (kinds_of file) → ShelfRead (shelf (kinds_of file) (n - 1) d) bs from lens bytes (Ok next)
     unfolding shelf
     passed-all e =
         let xs = p.stock.all in
-        let each : ℕ → Format (List ℕ) = λ i. expression (get_or (kinds_of file) i Privilege) (n - 1) d in
         let all : take k xs ≡ xs = take_all k xs (omega (arith, p.stock.count)) in
-        (xs, subst (λ (i : ℕ). Reads (times i each) bs from met xs) e (subst (Reads (times k each) bs from met) all p.reads), p.stock.holds)
+        let read = subst (λ (vs : Expressions). Reads (times k each) bs from (read_to vs next)) all p.reads in
+        (xs, subst (λ (i : ℕ). Reads (times i each) bs from (read_to xs next)) e read, p.stock.holds)
 
 -- a role and a file are such shelves
-module _ (F : Format Expressions) (bs : List ℕ) {from to : Met} {lens bytes : List ℕ} where
-  pub role-read : ShelfRead F bs from lens bytes to → ReadsAs F as_role bs from to (record { lens = lens; bytes = bytes })
+module _ (F : Format Expressions) (bs : List ℕ) (from : Result ℕ Refused) (next : ℕ) {lens bytes : List ℕ} where
+  pub role-read : ShelfRead F bs from lens bytes (Ok next) → ReadsAs F as_role bs from (read_to (record { lens = lens; bytes = bytes }) next)
   unfolding as_role
-  role-read (xs, f, holds) =
-      record { value = xs; reads = f; is = ap₂ {C = Role} (λ (l b : List ℕ). record { lens = l; bytes = b }) holds.lengths holds.room }
+  role-read (xs, f, holds) = (xs, f, ap₂ {C = Role} (λ (l b : List ℕ). record { lens = l; bytes = b }) holds.lengths holds.room)
 
-  pub file-read : ShelfRead F bs from lens bytes to → ReadsAs F as_file bs from to (record { lens = lens; bytes = bytes })
+  pub file-read : ShelfRead F bs from lens bytes (Ok next) → ReadsAs F as_file bs from (read_to (record { lens = lens; bytes = bytes }) next)
   unfolding as_file
-  file-read (xs, f, holds) =
-      record { value = xs; reads = f; is = ap₂ {C = File} (λ (l b : List ℕ). record { lens = l; bytes = b }) holds.lengths holds.room }
+  file-read (xs, f, holds) = (xs, f, ap₂ {C = File} (λ (l b : List ℕ). record { lens = l; bytes = b }) holds.lengths holds.room)

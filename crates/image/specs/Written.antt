@@ -14,7 +14,7 @@ use Rattle.fields.specs.Format.{Format}
 use Rattle.fields.specs.Combine.{times}
 use Rattle.fields.specs.Parts.{below, between, byte}
 use Rattle.fields.specs.Takings.{takes-byte}
-use Rattle.image.specs.Image.{Expressions, Policy, no_count, no_parent, no_expression, expression_bytes, each, version1, image, most_in_version1}
+use Rattle.image.specs.Image.{Policy, no_count, no_parent, no_expression, expression_bytes, each, version1, image, most_in_version1}
 use Rattle.image.specs.Image.{expression, shelf, counted, parent_bytes, tree_of, with_files, with_roles, body, policy_image}
 use Rattle.image.specs.Examples.{smallest-head}
 

@@ -1,13 +1,13 @@
 // Loading a policy image (01, "Image", "Requests": load): each reader tells what comes of its format (specs/Image), the whole in one pass.
 #![tactic(auto)]
 
-ghost use Rattle.std.specs.Prelude.{◌+◌, ◌*◌, ◌-◌, ◌<◌, ◌≤◌, length};
+ghost use Rattle.std.specs.Prelude.{◌≡◌, Bool, true, false, ◌+◌, ◌*◌, ◌-◌, ◌<◌, ◌≤◌, length, replicate};
+ghost use Rattle.std.specs.declared.result.Result.TheVariants.{Ok, Err};
 ghost use Rattle.tree.specs.Tree.{InRange};
 ghost use Rattle.expression.specs.Bytes.{longest};
-ghost use Rattle.policy.specs.State.{most_roles, most_files, no_role, no_file};
-ghost use Rattle.fields.specs.declared.Met.TheVariants.{Read};
 ghost use Rattle.fields.specs.Reading.{ReadsSome};
-ghost use Rattle.image.specs.Image.{head, in_use, stated, shelf as shelf_of, role_kinds, file_kinds, policy_image};
+ghost use Rattle.policy.specs.State.{no_role, no_file};
+ghost use Rattle.image.specs.Image.{Expressions, head, in_use, stated, shelf as shelf_of, policy_image};
 ghost use Rattle.image.specs.Load.{as_role, as_file, state_of, Loads};
 ghost use Rattle.image.specs.Reading.{ReadsAs, TreeRead, PutRead, kinds_of, Stocked, ShelfRead, RowsRead};
 
@@ -15,13 +15,11 @@ use answer::{
     Answer, COUNT_WRONG, ENDS_EARLY, EXPRESSION_WRONG, MARK_WRONG, PARENT_WRONG, VERSION_WRONG,
 };
 use expression::{Kind, LONGEST};
-use fields::Met;
+use fields::{Read, Refused};
 use order::Scanned;
-use policy::{
-    FILE_BYTES, FILE_PLACES, FILES, FREE, File, ROLE_BYTES, ROLE_PLACES, ROLES, Role, SLOTS, State,
-};
-use securon::{Level, ROOM};
-use tree::Tree;
+use policy::{FILES, File, ROLES, Role, State};
+use securon::ROOM;
+use tree::{Tree, TreeSize};
 
 // Mark `SPT`.
 const MARK_S: usize = 83;
@@ -38,276 +36,240 @@ const LATEST: usize = 1;
 // The most securons of an image of version 1.
 const MOST_IN_VERSION_1: usize = 64;
 
-// What a load gives back, and the state after it.
+// What a load gives back, and the state after it. (Not a Result: after a refusal the state is there too, and `Loads` speaks of both.)
 #[derive(Clone, Copy)]
 pub struct Loaded {
     pub answer: Answer,
     pub state: State,
 }
 
-// What comes of a format, and what is made of its value.
-#[derive(Clone, Copy)]
-struct TreeMet {
-    met: Met,
-    tree: Tree,
-}
-
-#[derive(Clone, Copy)]
-struct RoleMet {
-    met: Met,
-    role: Role,
-}
-
-#[derive(Clone, Copy)]
-struct FileMet {
-    met: Met,
-    file: File,
-}
-
-#[derive(Clone, Copy)]
-struct RolesMet {
-    met: Met,
-    roles: [Role; ROLES],
-}
-
-#[derive(Clone, Copy)]
-struct FilesMet {
-    met: Met,
-    files: [File; FILES],
-}
-
-#[derive(Clone, Copy)]
-struct ImageMet {
-    met: Met,
-    state: State,
-}
-
 // The mark and the version.
-fn read_head(image: &[u8]) -> Met
-    ensures { ReadsSome (head in_use.latest) image.now (Read 0) result }
+fn read_head(image: &[u8]) -> Result<usize, Refused>
+    ensures { ReadsSome (head in_use.latest) image.now (Ok 0) result }
 {
-    let s = fields::read_byte(image, Met::Read(0), MARK_S, MARK_S, MARK_WRONG).met;
-    let p = fields::read_byte(image, s, MARK_P, MARK_P, MARK_WRONG).met;
-    let t = fields::read_byte(image, p, MARK_T, MARK_T, MARK_WRONG).met;
-    fields::read_word(image, t, FIRST, LATEST, VERSION_WRONG).met
+    let s = fields::read_byte(image, Ok(0), MARK_S, MARK_S, MARK_WRONG)?;
+    let p = fields::read_byte(image, Ok(s.next), MARK_P, MARK_P, MARK_WRONG)?;
+    let t = fields::read_byte(image, Ok(p.next), MARK_T, MARK_T, MARK_WRONG)?;
+    let version = fields::read_word(image, Ok(t.next), FIRST, LATEST, VERSION_WRONG)?;
+    Ok(version.next)
 }
 
-// The parents of securons 1 up. Those that are not read are the root, so that there is a tree in any case.
-fn read_tree(image: &[u8], from: Met, n: usize) -> TreeMet
+// The parents of securons 1 up, and the tree that they make.
+fn read_tree(image: &[u8], at: usize, n: usize) -> Result<Read<Tree>, Refused>
     requires { InRange n }
-    ensures { TreeRead n image.now from result.met result.tree }
+    ensures { TreeRead n image.now (Ok at) result }
 {
     let mut parent = [0u8; ROOM];
-    let mut met = from;
-    for u in 1..n {
-        let got = fields::read_byte(image, met, 0, u - 1, PARENT_WRONG);
-        parent[u] = got.value as u8;
-        met = got.met;
+    let mut next = at;
+    for (k, up) in parent[1..n].iter_mut().enumerate() {
+        let read = fields::read_byte(image, Ok(next), 0, k, PARENT_WRONG)?;
+        // The parent is at most k, so the cast is proved to lose nothing; a conversion that can fail would have a case that never comes.
+        *up = read.value as u8;
+        next = read.next;
     }
-    let tree = Tree { n, parent };
-    TreeMet { met, tree }
+    Ok(Read {
+        value: Tree { n, parent },
+        next,
+    })
+}
+
+// A refusal.
+fn refusal(number: u8, place: usize) -> Refused
+    ensures { result ≡ record { number = number; place = place } }
+{
+    Refused { number, place }
 }
 
 // The stated bytes of an expression, which are all there.
-fn all_there(image: &[u8], at: usize, m: usize, kind: Kind, n: usize, depth: Level) -> Met
-    requires { (0 < n) × (at + m ≤ length image.now) }
-    ensures { ReadsSome (stated kind (n - 1) depth.0 m) image.now (Read at) result }
+fn all_there(
+    image: &[u8],
+    at: usize,
+    m: usize,
+    kind: Kind,
+    size: TreeSize,
+) -> Result<usize, Refused>
+    requires { at + m ≤ length image.now }
+    ensures { ReadsSome (stated kind (size.n - 1) size.depth.0 m) image.now (Ok at) result }
 {
     let end = at + m;
-    let found = order::scan(&image[at..end], kind, n, depth);
-    match found {
-        Scanned::Whole => Met::Read(end),
-        Scanned::Short => Met::Refused(EXPRESSION_WRONG, end),
-        Scanned::Fault(k) => Met::Refused(EXPRESSION_WRONG, at + k),
+    match order::scan(&image[at..end], kind, size) {
+        Scanned::Whole => Ok(end),
+        Scanned::Short => Err(refusal(EXPRESSION_WRONG, end)),
+        Scanned::Fault(k) => Err(refusal(EXPRESSION_WRONG, at + k)),
     }
 }
 
-// Those that are there, where the image ends before the stated end.
-fn cut(image: &[u8], at: usize, m: usize, kind: Kind, n: usize, depth: Level) -> Met
-    requires { (0 < n) × (at ≤ length image.now) × (length image.now < at + m) }
-    ensures { ReadsSome (stated kind (n - 1) depth.0 m) image.now (Read at) result }
+// Those that are there, where the image ends before the stated end: in any case a refusal.
+fn cut(image: &[u8], at: usize, m: usize, kind: Kind, size: TreeSize) -> Refused
+    requires { (at ≤ length image.now) × (length image.now < at + m) }
+    ensures { ReadsSome (stated kind (size.n - 1) size.depth.0 m) image.now (Ok at) (Err result) }
 {
-    let found = order::scan(&image[at..], kind, n, depth);
-    match found {
-        Scanned::Whole => Met::Refused(ENDS_EARLY, image.len()),
-        Scanned::Short => Met::Refused(ENDS_EARLY, image.len()),
-        Scanned::Fault(k) => Met::Refused(EXPRESSION_WRONG, at + k),
+    match order::scan(&image[at..], kind, size) {
+        Scanned::Whole => refusal(ENDS_EARLY, image.len()),
+        Scanned::Short => refusal(ENDS_EARLY, image.len()),
+        Scanned::Fault(k) => refusal(EXPRESSION_WRONG, at + k),
     }
 }
 
 // The stated bytes of an expression.
-fn read_stated(image: &[u8], at: usize, m: usize, kind: Kind, n: usize, depth: Level) -> Met
-    requires { (0 < n) × (at ≤ length image.now) }
-    ensures { ReadsSome (stated kind (n - 1) depth.0 m) image.now (Read at) result }
+fn read_stated(
+    image: &[u8],
+    at: usize,
+    m: usize,
+    kind: Kind,
+    size: TreeSize,
+) -> Result<usize, Refused>
+    requires { at ≤ length image.now }
+    ensures { ReadsSome (stated kind (size.n - 1) size.depth.0 m) image.now (Ok at) result }
 {
     if image.len() - at < m {
-        return cut(image, at, m, kind, n, depth);
+        return Err(cut(image, at, m, kind, size));
     }
-    all_there(image, at, m, kind, n, depth)
+    all_there(image, at, m, kind, size)
 }
 
-// An expression, its length byte and its bytes, stored at place k of a shelf if it is read.
+// An expression, its length byte and its bytes, stored at place k of a shelf.
 fn read_part(
     image: &[u8],
-    from: Met,
+    at: usize,
     kind: Kind,
-    n: usize,
-    depth: Level,
+    size: TreeSize,
     k: usize,
     lens: &mut [u8],
     bytes: &mut [u8],
-) -> Met
-    requires { (0 < n) × (k < length lens.old) × (longest * k + longest ≤ length bytes.old) }
-    ensures { PutRead kind n depth.0 image.now from k lens.old bytes.old lens.new bytes.new result }
+) -> Result<usize, Refused>
+    requires { (k < length lens.old) × (longest * k + longest ≤ length bytes.old) }
+    ensures { PutRead kind size.n size.depth.0 image.now (Ok at) k lens.old bytes.old lens.new bytes.new result }
 {
-    let lead = fields::read_byte(image, from, 0, LONGEST, EXPRESSION_WRONG);
-    let m = lead.value;
-    let led = lead.met;
-    let Met::Read(at) = led else {
-        return led;
-    };
-    let met = read_stated(image, at, m, kind, n, depth);
-    let Met::Read(end) = met else {
-        return met;
-    };
-    shelf::put(lens, bytes, k, &image[at..end]);
-    met
+    let lead = fields::read_byte(image, Ok(at), 0, LONGEST, EXPRESSION_WRONG)?;
+    let end = read_stated(image, lead.next, lead.value, kind, size)?;
+    shelf::put(lens, bytes, k, &image[lead.next..end]);
+    Ok(end)
 }
 
-// The expressions of a role or a file, place after place.
+// The expressions of a role or a file, place after place. (By number, of which the place's kind and its room are made; `file` as shelf has it.)
 fn read_shelf(
     image: &[u8],
-    from: Met,
+    at: usize,
     file: bool,
-    n: usize,
-    depth: Level,
+    size: TreeSize,
     lens: &mut [u8],
     bytes: &mut [u8],
-) -> Met
-    requires { (0 < n) × Stocked (length (kinds_of file)) lens.old bytes.old }
-    ensures { ShelfRead (shelf_of (kinds_of file) (n - 1) depth.0) image.now from lens.new bytes.new result }
+) -> Result<usize, Refused>
+    requires { Stocked (length (kinds_of file)) lens.old bytes.old }
+    ensures { ShelfRead (shelf_of (kinds_of file) (size.n - 1) size.depth.0) image.now (Ok at) lens.new bytes.new result }
 {
-    let mut met = from;
+    let mut next = at;
     for k in 0..lens.len() {
-        let kind = shelf::kind_at(file, k);
-        met = read_part(image, met, kind, n, depth, k, lens, bytes);
+        next = read_part(image, next, shelf::kind_at(file, k), size, k, lens, bytes)?;
     }
-    met
+    Ok(next)
 }
 
-// One role.
-fn read_role(image: &[u8], from: Met, n: usize, depth: Level) -> RoleMet
-    requires { 0 < n }
-    ensures { ReadsAs (shelf_of role_kinds (n - 1) depth.0) as_role image.now from result.met result.role }
-{
-    let mut lens = [0u8; ROLE_PLACES];
-    let mut bytes = [0u8; ROLE_BYTES];
-    let met = read_shelf(image, from, false, n, depth, &mut lens, &mut bytes);
-    let role = Role { lens, bytes };
-    RoleMet { met, role }
+// What roles and files have in common: a shelf of expressions, of the kinds of the one or of the other, that is read into a row of zero.
+trait Row: Copy {
+    ghost file: { Bool };
+
+    ghost make: { Expressions → Self };
+
+    ghost none: { Self };
+
+    // One of them.
+    fn read(image: &[u8], at: usize, size: TreeSize) -> Result<Read<Self>, Refused>
+        ensures { ReadsAs (shelf_of (kinds_of file) (size.n - 1) size.depth.0) make image.now (Ok at) result };
 }
 
-// One file.
-fn read_file(image: &[u8], from: Met, n: usize, depth: Level) -> FileMet
-    requires { 0 < n }
-    ensures { ReadsAs (shelf_of file_kinds (n - 1) depth.0) as_file image.now from result.met result.file }
-{
-    let mut lens = [0u8; FILE_PLACES];
-    let mut bytes = [0u8; FILE_BYTES];
-    let met = read_shelf(image, from, true, n, depth, &mut lens, &mut bytes);
-    let file = File { lens, bytes };
-    FileMet { met, file }
-}
+impl Row for Role {
+    ghost file = { false };
 
-// So many roles; those from the count up are zero.
-fn read_roles(image: &[u8], from: Met, count: usize, n: usize, depth: Level) -> RolesMet
-    requires { (0 < n) × (count ≤ most_roles) }
-    ensures { RowsRead as_role no_role most_roles (shelf_of role_kinds (n - 1) depth.0) count image.now from result.met result.roles }
-{
-    let none = Role {
-        lens: [0u8; ROLE_PLACES],
-        bytes: [0u8; ROLE_BYTES],
-    };
-    let mut roles = [none; ROLES];
-    let mut met = from;
-    for i in 0..count {
-        let got = read_role(image, met, n, depth);
-        let role = got.role;
-        roles[i] = role;
-        met = got.met;
+    ghost make = { as_role };
+
+    ghost none = { no_role };
+
+    fn read(image: &[u8], at: usize, size: TreeSize) -> Result<Read<Role>, Refused> {
+        let mut row = Role::ZERO;
+        let next = read_shelf(image, at, false, size, &mut row.lens, &mut row.bytes)?;
+        Ok(Read { value: row, next })
     }
-    RolesMet { met, roles }
 }
 
-// So many files; those from the count up are zero.
-fn read_files(image: &[u8], from: Met, count: usize, n: usize, depth: Level) -> FilesMet
-    requires { (0 < n) × (count ≤ most_files) }
-    ensures { RowsRead as_file no_file most_files (shelf_of file_kinds (n - 1) depth.0) count image.now from result.met result.files }
-{
-    let none = File {
-        lens: [0u8; FILE_PLACES],
-        bytes: [0u8; FILE_BYTES],
-    };
-    let mut files = [none; FILES];
-    let mut met = from;
-    for i in 0..count {
-        let got = read_file(image, met, n, depth);
-        let file = got.file;
-        files[i] = file;
-        met = got.met;
+impl Row for File {
+    ghost file = { true };
+
+    ghost make = { as_file };
+
+    ghost none = { no_file };
+
+    fn read(image: &[u8], at: usize, size: TreeSize) -> Result<Read<File>, Refused> {
+        let mut row = File::ZERO;
+        let next = read_shelf(image, at, true, size, &mut row.lens, &mut row.bytes)?;
+        Ok(Read { value: row, next })
     }
-    FilesMet { met, files }
+}
+
+// So many roles or files, into rows of zero; those from the count up stay zero.
+fn read_rows<R: Row>(
+    image: &[u8],
+    at: usize,
+    size: TreeSize,
+    count: usize,
+    rows: &mut [R],
+) -> Result<usize, Refused>
+    requires zero { rows.old ≡ replicate (length rows.old) R.none }
+    requires few { count ≤ length rows.old }
+    ensures { RowsRead R.make R.none (length rows.old) (shelf_of (kinds_of R.file) (size.n - 1) size.depth.0) count image.now (Ok at) rows.new result }
+{
+    let mut next = at;
+    for row in rows[..count].iter_mut() {
+        let read = R::read(image, next, size)?;
+        *row = read.value;
+        next = read.next;
+    }
+    Ok(next)
 }
 
 // The whole image, in one pass, and the state that its policy makes.
-fn read_image(image: &[u8]) -> ImageMet
-    ensures { ReadsAs (policy_image in_use) state_of image.now (Read 0) result.met result.state }
+fn read_image(image: &[u8]) -> Result<Read<State>, Refused>
+    ensures { ReadsAs (policy_image in_use) state_of image.now (Ok 0) result }
 {
-    let top = read_head(image);
-    let securons = fields::read_byte(image, top, 1, MOST_IN_VERSION_1, COUNT_WRONG);
-    let n = securons.value;
-    let counted = securons.met;
-    let grown = read_tree(image, counted, n);
-    let tree = grown.tree;
-    let parents = grown.met;
+    let top = read_head(image)?;
+    let securons = fields::read_byte(image, Ok(top), 1, MOST_IN_VERSION_1, COUNT_WRONG)?;
+    let grown = read_tree(image, securons.next, securons.value)?;
+    let tree = grown.value;
     let levels = tree.levels();
-    let depth = levels.depth;
-    let role_count = fields::read_byte(image, parents, 0, ROLES, COUNT_WRONG);
-    let nroles = role_count.value;
-    let before_roles = role_count.met;
-    let role_part = read_roles(image, before_roles, nroles, n, depth);
-    let roles = role_part.roles;
-    let after_roles = role_part.met;
-    let file_count = fields::read_byte(image, after_roles, 0, FILES, COUNT_WRONG);
-    let nfiles = file_count.value;
-    let before_files = file_count.met;
-    let file_part = read_files(image, before_files, nfiles, n, depth);
-    let files = file_part.files;
-    let met = file_part.met;
-    let state = State {
-        tree,
-        nroles,
-        roles,
-        nfiles,
-        files,
-        slots: [FREE; SLOTS],
+    let size = TreeSize {
+        n: tree.n,
+        depth: levels.depth,
     };
-    ImageMet { met, state }
+    let mut state = State::fresh();
+    state.tree = tree;
+    let roles = fields::read_byte(image, Ok(grown.next), 0, ROLES, COUNT_WRONG)?;
+    state.nroles = roles.value;
+    let after = read_rows(image, roles.next, size, roles.value, &mut state.roles)?;
+    let files = fields::read_byte(image, Ok(after), 0, FILES, COUNT_WRONG)?;
+    state.nfiles = files.value;
+    let next = read_rows(image, files.next, size, files.value, &mut state.files)?;
+    Ok(Read { value: state, next })
 }
 
 // Replaces all by the policy of the image and frees every slot; a refusal keeps the state as it was. The prior state isn't examined.
 pub fn load(state: State, image: &[u8]) -> Loaded
     ensures { Loads image.now state result }
 {
-    let got = read_image(image);
-    let met = got.met;
-    let answer = fields::answer_at_end(image, met);
-    if answer.granted() {
-        let policy = got.state;
-        return Loaded {
-            answer,
-            state: policy,
-        };
+    match read_image(image) {
+        Ok(policy) => {
+            let answer = fields::answer_at_end(image, Ok(policy.next));
+            if answer.granted() {
+                return Loaded {
+                    answer,
+                    state: policy.value,
+                };
+            }
+            Loaded { answer, state }
+        }
+        Err(refused) => Loaded {
+            answer: fields::answer_at_end(image, Err(refused)),
+            state,
+        },
     }
-    Loaded { answer, state }
 }

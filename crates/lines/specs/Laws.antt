@@ -1,5 +1,5 @@
 -- An answer has one line, and a part of the input leaves one line behind. Assumes nothing.
-use Rattle.std.specs.Prelude.{◌≡◌, refl, Bool, true, false, ℕ, ◌+◌, ◌-◌, ◌^◌, ◌<◌, ◌≤◌, min, length, take, drop}
+use Rattle.std.specs.Prelude.{◌≡◌, refl, Option, Some, None, ℕ, ◌+◌, ◌-◌, ◌^◌, ◌<◌, ◌≤◌, min, length, take, drop}
 use Rattle.std.proofs.Common.{sym, ap, ap₂, ◌∙◌, subst, arith, lit<, length-append, length-drop, take-append-drop, take_all, length-take-le}
 use mathlib.Core.List.{List, [], ◌∷◌, ◌++◌, append_cancel_left, tail-eq_of_cons-eq}
 use Rattle.std.proofs.Math.Nat.{pow-le-pow_right}
@@ -7,7 +7,7 @@ use Rattle.std.proofs.Math.Decide.{dec_lt}
 use Rattle.std.proofs.Math.Seq.{take-append-add}
 use Rattle.io.specs.Digits.{last_digits, IsDigitCount}
 use Rattle.answer.specs.declared.Answer.{Answer}
-use Rattle.lines.specs.declared.Part.{Part}
+use Rattle.lines.specs.declared.begun.Begun.{Begun}
 use Rattle.lines.specs.Lines.{Decimal, hexes, Line, Fills, Held, Unended, Collected}
 
 -- ---- what is printed
@@ -64,24 +64,19 @@ same_rest p q u v h k e =
     tail-eq_of_cons-eq (append_cancel_left p (10 ∷ u) (10 ∷ v) s)
 
 -- what was collected is the front of the input
-module _ {input : List ℕ} {n : ℕ} {before : List ℕ} {r : Part} {x : List ℕ} (c : Collected input n before r x) where
-  ended-next : r.ended ≡ true → r.next ≡ length c.part + 1
-  ended-next e = omega (arith, ap length (c.ended e) ∙ length-append c.part (10 ∷ drop r.next input), length-drop r.next input, c.within)
+module _ {input : List ℕ} {before x : Begun} where
+  pub ended-next : {p : ℕ} (c : Collected input before (Some p) x) → p ≡ length c.part + 1
+  ended-next {p} c = omega (arith, ap length c.ends.1 ∙ length-append c.part (10 ∷ drop p input), length-drop p input, c.ends.0)
 
-  pub ended-front : r.ended ≡ true → take r.next input ≡ c.part ++ (10 ∷ [])
-  ended-front e =
-      ap₂ take (ended-next e) (c.ended e) ∙ take-append-add c.part (10 ∷ drop r.next input) 1
+  pub ended-front : {p : ℕ} (c : Collected input before (Some p) x) → take p input ≡ c.part ++ (10 ∷ [])
+  ended-front {p} c = ap₂ take (ended-next c) c.ends.1 ∙ take-append-add c.part (10 ∷ drop p input) 1
 
-  pub unfinished-front : r.ended ≡ false → take r.next input ≡ c.part
-  unfinished-front e = let u = c.unfinished e in take_all r.next input (omega (arith, u.1)) ∙ u.0
+  pub unfinished-front : (c : Collected input before None x) → take (length input) input ≡ c.part
+  unfinished-front c = take_all (length input) input (omega arith) ∙ c.ends
 
-  -- some of it, unless there is none
-  pub collects-some : 0 < length input → 0 < r.next
-  collects-some h = go r.ended refl
-    where
-      go : (b : Bool) → r.ended ≡ b → 0 < r.next
-      go true e = omega (arith, ended-next e)
-      go false e = omega (arith, (c.unfinished e).1)
+  -- some of it: a line that has ended has its line end
+  pub collects-some : {p : ℕ} → Collected input before (Some p) x → 0 < p
+  collects-some c = omega (arith, ended-next c)
 
 -- no line: none of it is kept
 pub none-held : (kept : List ℕ) → Held 0 kept []
@@ -97,31 +92,30 @@ whole-held n kept few long =
 pub few-held : {n : ℕ} {kept w : List ℕ} → Held n kept w → n ≤ 513
 few-held h = omega (arith, h.count)
 
-module _ (input : List ℕ) (n : ℕ) (before : List ℕ) (few : n ≤ 513) (long : length before ≡ 513) where
-  not-both : {r s : Part} {x y : List ℕ} → Collected input n before r x → Collected input n before s y → r.ended ≡ true → s.ended ≡ false → ⊥
-  not-both {r} c d e f = has_end c.part (drop r.next input) (subst Unended (sym (d.unfinished f).0 ∙ c.ended e) d.unended)
+module _ {input : List ℕ} {before x y : Begun} where
+  -- the part and the place after its line end are those of the input
+  one-part : {r s : Option ℕ} (c : Collected input before r x) (d : Collected input before s y) → (c.part ≡ d.part) × (r ≡ s)
+  one-part {r = Some p} {s = Some q} c d =
+      let e : c.part ≡ d.part = same-part c.part d.part (drop p input) (drop q input) c.unended d.unended (sym c.ends.1 ∙ d.ends.1) in
+      (e, ap Some (ended-next c ∙ ap (λ (z : List ℕ). length z + 1) e ∙ sym (ended-next d)))
+  one-part {r = Some p} {s = None} c d = absurd (has_end c.part (drop p input) (subst Unended (sym d.ends ∙ c.ends.1) d.unended))
+  one-part {r = None} {s = Some q} c d = absurd (has_end d.part (drop q input) (subst Unended (sym c.ends ∙ d.ends.1) c.unended))
+  one-part {r = None} {s = None} c d = (sym c.ends ∙ d.ends, refl)
 
-  -- the part, the place after it and whether it has ended are those of the input
-  found : {r s : Part} {x y : List ℕ} (c : Collected input n before r x) (d : Collected input n before s y) (b b' : Bool)
-      → r.ended ≡ b → s.ended ≡ b' → (c.part ≡ d.part) × (r.next ≡ s.next) × (b ≡ b')
-  found {r} {s} c d true true e f =
-      let p : c.part ≡ d.part =
-      same-part c.part d.part (drop r.next input) (drop s.next input) c.unended d.unended (sym (c.ended e) ∙ d.ended f) in
-      (p, ended-next c e ∙ ap (λ (z : List ℕ). length z + 1) p ∙ sym (ended-next d f), refl)
-  found c d false false e f = (sym (c.unfinished e).0 ∙ (d.unfinished f).0, (c.unfinished e).1 ∙ sym (d.unfinished f).1, refl)
-  found c d true false e f = absurd (not-both c d e f)
-  found c d false true e f = absurd (not-both d c f e)
+-- so are the bytes that are kept
+all_held : (input : List ℕ) (before : Begun) → length before.bytes ≡ 513 → {r : Option ℕ} {x : Begun} (c : Collected input before r x)
+    → Held x.n x.bytes (take before.n before.bytes ++ c.part)
+all_held input before long c = c.held (take before.n before.bytes) (whole-held before.n before.bytes before.within long)
 
-  -- so are the bytes that are kept
-  all_held : {r : Part} {x : List ℕ} (c : Collected input n before r x) → Held r.n x (take n before ++ c.part)
-  all_held c = c.held (take n before) (whole-held n before few long)
-
-  pub one-collected : {r s : Part} {x y : List ℕ} → Collected input n before r x → Collected input n before s y → (r ≡ s) × (x ≡ y)
-  one-collected {r} {s} {x} {y} c d =
-      let w = found c d r.ended s.ended refl refl in
-      let k : r.n ≡ s.n = (all_held c).count ∙ ap (λ (z : List ℕ). min 513 (length (take n before ++ z))) w.0 ∙ sym (all_held d).count in
-      let m : take r.n x ≡ take s.n y = (all_held c).is ∙ ap (λ (z : List ℕ). take 513 (take n before ++ z)) w.0 ∙ sym (all_held d).is in (
-        ap₂ (λ (i : ℕ) (j : ℕ). record { n = i; next = j; ended = r.ended }) k w.1
-            ∙ ap (λ (b : Bool). record { n = s.n; next = s.next; ended = b }) w.2,
-        sym (take-append-drop r.n x) ∙ ap₂ ◌++◌ m (c.rest ∙ ap (λ (z : ℕ). drop z before) k ∙ sym d.rest) ∙ take-append-drop s.n y,
-      )
+pub one-collected : (input : List ℕ) (before : Begun) → length before.bytes ≡ 513 → {r s : Option ℕ} {x y : Begun}
+    → Collected input before r x → Collected input before s y → (r ≡ s) × (x.n ≡ y.n) × (x.bytes ≡ y.bytes)
+one-collected input before long {x = x} {y} c d =
+    let w = one-part c d in
+    let h = all_held input before long c in
+    let g = all_held input before long d in
+    let k : x.n ≡ y.n = h.count ∙ ap (λ (z : List ℕ). min 513 (length (take before.n before.bytes ++ z))) w.0 ∙ sym g.count in
+    let m : take x.n x.bytes ≡ take y.n y.bytes = h.is ∙ ap (λ (z : List ℕ). take 513 (take before.n before.bytes ++ z)) w.0 ∙ sym g.is in (
+      w.1,
+      k,
+      sym (take-append-drop x.n x.bytes) ∙ ap₂ ◌++◌ m (c.rest ∙ ap (λ (z : ℕ). drop z before.bytes) k ∙ sym d.rest) ∙ take-append-drop y.n y.bytes,
+    )

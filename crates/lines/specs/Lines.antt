@@ -1,8 +1,8 @@
 -- How an answer is printed as a line, and what is kept of a line of input. Definitions only.
-use Rattle.std.specs.Prelude.{◌≡◌, true, false, List, [], ◌∷◌, ◌++◌, ℕ, ◌/◌, ◌%◌, ◌≤◌, min, length, take, drop}
+use Rattle.std.specs.Prelude.{◌≡◌, Option, MatchOption, List, [], ◌∷◌, ◌++◌, ℕ, ◌/◌, ◌%◌, ◌≤◌, min, length, take, drop}
 use Rattle.io.specs.Digits.{hex_digit_ascii, last_digits, IsDigitCount}
 use Rattle.answer.specs.declared.Answer.{Answer}
-use Rattle.lines.specs.declared.Part.{Part}
+use Rattle.lines.specs.declared.begun.Begun.{Begun}
 
 -- ---- what is printed
 -- d is n in decimal, with no more digits than it takes
@@ -45,12 +45,10 @@ abbrev pub Unended : List ℕ → Type 0
 Unended [] = Unit {0}
 Unended (x ∷ xs) = (x ≡ 10 → ⊥) × Unended xs
 
--- of the input, the part up to the next line end, or all of it, was added to the line; what is not kept of it keeps its content
-pub record Collected (input : List ℕ) (n : ℕ) (before : List ℕ) (r : Part) (after : List ℕ) : Type 0 where
+-- of the input, the part up to the next line end, or all of it, was added to the line begun; what is not kept of it keeps its content
+pub record Collected (input : List ℕ) (before : Begun) (next : Option ℕ) (after : Begun) : Type 0 where
   pub part : List ℕ
   pub unended : Unended part
-  pub within : r.next ≤ length input
-  pub ended : r.ended ≡ true → input ≡ part ++ (10 ∷ drop r.next input)
-  pub unfinished : r.ended ≡ false → (input ≡ part) × (r.next ≡ length input)
-  pub held : (w : List ℕ) → Held n before w → Held r.n after (w ++ part)
-  pub rest : drop r.n after ≡ drop r.n before
+  pub ends : MatchOption next (input ≡ part) (λ p. (p ≤ length input) × (input ≡ part ++ (10 ∷ drop p input)))
+  pub held : (w : List ℕ) → Held before.n before.bytes w → Held after.n after.bytes (w ++ part)
+  pub rest : drop after.n after.bytes ≡ drop after.n before.bytes

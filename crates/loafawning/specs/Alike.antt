@@ -4,7 +4,9 @@ use Rattle.std.proofs.Common.{sym, ap, ◌∙◌, subst, arith}
 use Rattle.image.specs.Image.{expression_bytes}
 use Rattle.machine.specs.Machine.{Request, load, begin, end, ask, change, bypass}
 use Rattle.script.specs.Script.{IsRecord, a-begin, an-end, an-ask, a-change, a-bypass}
-use Rattle.records.specs.Records.{Shape, Byte, Short, Listed, code-01, code-02, code-03, code-04, code-05, Field, Fields, none, next, Recorded}
+use Rattle.records.specs.declared.Shape.{Shape}
+use Rattle.records.specs.declared.Shape.TheVariants.{Byte, Short}
+use Rattle.records.specs.Records.{Listed, code-01, code-02, code-03, code-04, code-05, Field, Fields, none, next, Recorded}
 use Rattle.records.specs.Laws.{one_line}
 use Rattle.door.specs.Box.{requests, IsBoxRecord, begins, ends, asks, changes, bypasses, loads}
 

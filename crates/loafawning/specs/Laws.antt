@@ -2,11 +2,10 @@
 use Rattle.std.specs.Prelude.{◌≡◌, List, ℕ, ◌<◌, ◌≤◌, length}
 use Rattle.std.proofs.Common.{sym, ap, ◌∙◌, subst, inl, inr, arith}
 use Rattle.answer.specs.declared.Answer.{Answer}
-use Rattle.answer.specs.Answers.{Decides, Leaves}
+use Rattle.answer.specs.Answers.{Decides, Leaves, packed}
 use Rattle.text.specs.Turn.{text_conditions, text_grants, text_makes}
 use Rattle.text.specs.Complete.{one-reading}
 use Rattle.text.specs.Laws.{one-text-answer, one-text-output}
-use Rattle.door.specs.Box.{packed}
 use Rattle.loafawning.specs.Exported.{Turns}
 
 -- a number below 256, and a place of at most 512

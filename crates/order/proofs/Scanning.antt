@@ -2,7 +2,6 @@
 use mathlib.Core.Path.{◌≡◌, refl, sym, ap, ◌∙◌, subst}
 use mathlib.Core.List.{List, [], ◌∷◌, ◌++◌, append_assoc, append-nil}
 use mathlib.Core.Logic.{◌⊎◌, inl, inr, ◌↔◌}
-use mathlib.Core.Bool.{Bool, true, false}
 use Prim.Native.Nat.{ℕ, suc, ◌+◌, ◌-◌, ◌<◌, ◌≤◌}
 use native.Mathlib.Nat.{add-zero}
 use native.Mathlib.Omega.{arith}
@@ -18,7 +17,7 @@ use Rattle.order.specs.declared.Scanned.TheVariants.{Short, Fault}
 use Rattle.expression.specs.Bytes.{MayOR, Written, Right}
 use Rattle.order.specs.Order.{Finds}
 use Rattle.expression.specs.Scan.{Rest, written-rest, rest-none, rest-and, rest-or, fault-right, fault-over, fault-end, from, from-drop, from-length}
-use Rattle.order.specs.Heads.{Head}
+use Rattle.order.specs.Heads.{WholeTerm}
 
 module _ (kind : Kind) (n d : ℕ) where
   fit : {k m : ℕ} {r : List ℕ} → k ≡ m → Rest kind n d k r → Rest kind n d m r
@@ -72,20 +71,20 @@ module _ (kind : Kind) (n d : ℕ) where
           (λ w. fit (omega arith) ((rest-or kind n d may (k - 1) r).1 (fit (omega arith) w))),
         )
 
-    module _ {whole : Bool} {good : ℕ} (p : 0 < k) (h : Head kind n d (from bs at) whole good) where
+    module _ {good : ℕ} (p : 0 < k) where
       -- a whole term is one expression less
-      pub at-term : whole ≡ true → At bs (k - 1) (at + good)
-      at-term e =
+      pub at-term : WholeTerm kind n d (from bs at) good → At bs (k - 1) (at + good)
+      at-term h =
           let few : good ≤ length bs - at = subst (λ (x : ℕ). good ≤ x) (from-length bs at) h.within in
           at_next (k - 1) good (omega (arith, a.within)) (omega (arith, a.few)) (λ r.
-          let g = rw (from-drop bs at) at (h.full e (k - 1) r) in
+          let g = rw (from-drop bs at) at (h.full (k - 1) r) in
           ((λ w. g.0 (fit (omega arith) w)), λ w. fit (omega arith) (g.1 w)))
 
       -- a term that does not stand is the fault
-      pub at-stuck : 0 < length bs → whole ≡ false → FaultAt (Right kind n d) bs (at + good)
-      at-stuck some w =
+      pub at-stuck : ((m : ℕ) → FaultAt (Rest kind n d (suc m)) (from bs at) good) → 0 < length bs → FaultAt (Right kind n d) bs (at + good)
+      at-stuck h some =
           let e : suc (k - 1) ≡ k = omega arith in
-          at-fault some (subst (λ (m : ℕ). FaultAt (Rest kind n d m) (drop at bs) good) e (rw (from-drop bs at) at (h.stuck w (k - 1))))
+          at-fault some (subst (λ (m : ℕ). FaultAt (Rest kind n d m) (drop at bs) good) e (rw (from-drop bs at) at (h (k - 1))))
 
     -- a byte after the whole is the fault
     pub at-over : 0 < n → k ≡ 0 → at < length bs → FaultAt (Right kind n d) bs at

@@ -1,15 +1,16 @@
 -- How far a term stands, by what is known of its bytes one by one. Assumes nothing.
-use mathlib.Core.Path.{◌≡◌, sym, ◌∙◌, subst}
-use mathlib.Core.Bool.{Bool, true, false, true≢false}
+use mathlib.Core.Path.{◌≡◌, subst}
 use mathlib.Core.List.{List, [], ◌∷◌, ◌++◌}
 use mathlib.Core.Logic.{◌↔◌}
-use Prim.Native.Nat.{ℕ, suc, ◌+◌, ◌<◌, ◌≤◌}
+use Prim.Native.Nat.{ℕ, suc, ◌<◌, ◌≤◌}
 use native.Mathlib.Omega.{arith}
 use lib.ListN.{length, get_or, take}
 use Rattle.answer.specs.Faults.{FaultAt}
 use Rattle.expression.specs.declared.Kind.{Kind}
-use Rattle.expression.specs.Scan.{Rest, fault-one, fault-securon, fault-from, fault-to, fault-code, whole-one, whole-range}
+use Rattle.std.specs.Prelude.{Result, Err}
+use Rattle.order.specs.declared.Wrong.{Wrong}
 use Rattle.order.specs.Heads.{Head}
+use Rattle.expression.specs.Scan.{Rest, fault-one, fault-securon, fault-from, fault-to, fault-code, whole-one, whole-range}
 
 -- a next byte that there is not, or that can't stand
 Bad : List ℕ → (ℕ → Type 0) → Type 0
@@ -20,18 +21,10 @@ unfolding Bad
 bad l P h x r e p = subst (λ (t : List ℕ). (0 < length t → P (get_or t 0 0) → ⊥)) e h (omega arith) p
 
 module _ (kind : Kind) (n d : ℕ) where
-  pub head-stuck : {l : List ℕ} {whole : Bool} {good m : ℕ} → whole ≡ false → good ≡ m → m ≤ length l
-      → ((k : ℕ) → FaultAt (Rest kind n d (suc k)) l m) → Head kind n d l whole good
-  head-stuck {l} w g h f = record {
-    within = rw g h;
-    some = λ e. absurd (true≢false (sym e ∙ w));
-    full = λ e. absurd (true≢false (sym e ∙ w));
-    stuck = λ _ k. rw g (f k);
-  }
-
-  pub head-whole : {l : List ℕ} {m : ℕ} → m ≤ length l → 0 < m
-      → ((k : ℕ) (r : List ℕ) → Rest kind n d (suc k) (take m l ++ r) ↔ Rest kind n d k r) → Head kind n d l true m
-  head-whole h p f = record { within = h; some = λ _. p; full = λ _. f; stuck = λ e. absurd (true≢false e) }
+  -- a term that does not stand, at the place m
+  pub head-wrong : {l : List ℕ} {r : Result ℕ Wrong} {w : Wrong} {m : ℕ} → r ≡ Err w → w.0 ≡ m → ((k : ℕ) → FaultAt (Rest kind n d (suc k)) l m)
+      → Head kind n d l r
+  head-wrong e q f = rw (e, q) f
 
   module _ (some : 0 < n) where
     pub one-stuck : (l : List ℕ) → 0 < length l → get_or l 0 0 ≡ 1 → (1 < length l → get_or l 1 0 < n → ⊥) → (k : ℕ) → FaultAt (Rest kind n d (suc k)) l 1

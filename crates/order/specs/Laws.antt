@@ -1,13 +1,16 @@
 -- Each promise leaves one answer, and an answer's number and place are those of 01. Assumes nothing.
 use Rattle.std.specs.Prelude.{◌≡◌, refl, Bool, List, [], ◌∷◌, ◌++◌, ℕ, ◌+◌, ◌<◌, ◌≤◌, length}
-use Rattle.std.proofs.Common.{sym, ap, ap₂, ◌∙◌, inl, inr, zero-add, arith}
+use Rattle.std.proofs.Common.{sym, ap, ◌∙◌, inl, inr, zero-add, arith}
+use Rattle.std.specs.declared.result.Result.{Result}
+use Rattle.std.specs.declared.result.Result.TheVariants.{Ok, Err}
 use Rattle.answer.specs.Numbers.{expression_wrong}
 use Rattle.answer.specs.Answers.{Condition, must_at, Decides}
 use Rattle.answer.specs.Faults.{FaultAt}
 use Rattle.answer.specs.Laws.{AtMostOne, OnePlaceEach, one-fault, no-fault}
+use Rattle.securon.specs.declared.SecuronSet.{SecuronSet}
 use Rattle.securon.specs.Sets.{Set, ◌≐◌, marked}
 use Rattle.securon.specs.Laws.{one_set}
-use Rattle.logic.specs.Iff.{iff-trans, iff-sym}
+use Rattle.logic.specs.Iff.{iff-trans, iff-sym, one-test}
 use Rattle.tree.specs.declared.Tree.{Tree}
 use Rattle.expression.specs.declared.Kind.{Kind}
 use Rattle.expression.specs.declared.Kind.TheVariants.{Privilege, Protection}
@@ -16,21 +19,21 @@ use Rattle.expression.specs.Judge.{WrongOver}
 use Rattle.expression.specs.One.{one-wrong, in-order-not-wrong, one-wrong-over, in-order-not-wrong-over, wrong-within-over}
 use Rattle.order.specs.declared.Scanned.{Scanned}
 use Rattle.order.specs.declared.Scanned.TheVariants.{Whole, Short, Fault}
-use Rattle.order.specs.declared.Checked.{Checked}
-use Rattle.order.specs.declared.Checked.TheVariants.{Fine, Wrong}
-use Rattle.order.specs.declared.Named.{Named}
+use Rattle.order.specs.declared.Wrong.{Wrong}
 use Rattle.order.specs.declared.Mutable.{Mutable}
-use Rattle.order.specs.declared.Judged.{Judged}
-use Rattle.order.specs.declared.Judged.TheVariants.{Met, NotMet, Faulty}
-use Rattle.order.specs.Order.{scan_answer, check_answer, judge_answer, Finds, Checks, Judges, NamesSET}
+use Rattle.order.specs.Order.{scan_answer, check_answer, Finds, Checks, Judges, NamesSET}
 use Rattle.order.specs.Conditions.{second, Added, in_order, expression_conditions}
+
+-- faults at one place are one
+one-wrong-place : (v w : Wrong) → v.0 ≡ w.0 → v ≡ w
+one-wrong-place v w e = ap (λ (k : ℕ). record { 0 = k }) e
 
 module _ (kind : Kind) (n d : ℕ) (bs : List ℕ) where
   pub one-check : AtMostOne (Checks kind n d bs)
-  one-check Fine Fine p q = refl
-  one-check Fine (Wrong k) p q = absurd (in-order-not-wrong kind n d bs k p q)
-  one-check (Wrong k) Fine p q = absurd (in-order-not-wrong kind n d bs k q p)
-  one-check (Wrong j) (Wrong k) p q = ap Wrong (one-wrong kind n d bs j k p q)
+  one-check (Ok u) (Ok v) p q = refl
+  one-check (Ok u) (Err w) p q = absurd (in-order-not-wrong kind n d bs w.0 p q)
+  one-check (Err w) (Ok u) p q = absurd (in-order-not-wrong kind n d bs w.0 q p)
+  one-check (Err v) (Err w) p q = ap Err (one-wrong-place v w (one-wrong kind n d bs v.0 w.0 p q))
 
   pub one-scan : AtMostOne (Finds kind n d bs)
   one-scan Whole Whole p q = refl
@@ -51,48 +54,54 @@ module _ (kind : Kind) (n d : ℕ) (bs : List ℕ) where
   scan-answers (Fault k) p = inl ((λ w. no-fault (Right kind n d) bs w p.1), refl, p.1)
 
   -- what a check says: 0 if the bytes are in order; else 6 at their place
-  pub check-answers : (r : Checked) → Checks kind n d bs r
+  pub check-answers : (r : Result (Unit {0}) Wrong) → Checks kind n d bs r
       → Decides (must_at (InOrder kind n d bs) expression_wrong (WrongAt kind n d bs) ∷ []) (λ k. k ≡ 0) (check_answer r)
-  check-answers Fine p = inr (p, (refl, refl))
-  check-answers (Wrong k) p = inl ((λ w. in-order-not-wrong kind n d bs k w p), refl, p)
+  check-answers (Ok u) p = inr (p, (refl, refl))
+  check-answers (Err w) p = inl ((λ i. in-order-not-wrong kind n d bs w.0 i p), refl, p)
 
 pub one-judgement : (t : Tree) (part : Mutable) (H : Set) (bs : List ℕ) → AtMostOne (Judges t part H bs)
-one-judgement t part H bs Met Met p q = refl
-one-judgement t part H bs Met NotMet p q = absurd (q.1 p.1)
-one-judgement t part H bs Met (Faulty k) p q = absurd (in-order-not-wrong-over Protection t bs k p.0 q)
-one-judgement t part H bs NotMet Met p q = absurd (p.1 q.1)
-one-judgement t part H bs NotMet NotMet p q = refl
-one-judgement t part H bs NotMet (Faulty k) p q = absurd (in-order-not-wrong-over Protection t bs k p.0 q)
-one-judgement t part H bs (Faulty k) Met p q = absurd (in-order-not-wrong-over Protection t bs k q.0 p)
-one-judgement t part H bs (Faulty k) NotMet p q = absurd (in-order-not-wrong-over Protection t bs k q.0 p)
-one-judgement t part H bs (Faulty j) (Faulty k) p q = ap Faulty (one-wrong-over Protection t bs j k p q)
+one-judgement t part H bs (Ok a) (Ok b) p q = ap Ok (one-test a b p.1 q.1)
+one-judgement t part H bs (Ok a) (Err w) p q = absurd (in-order-not-wrong-over Protection t bs w.0 p.0 q)
+one-judgement t part H bs (Err w) (Ok b) p q = absurd (in-order-not-wrong-over Protection t bs w.0 q.0 p)
+one-judgement t part H bs (Err v) (Err w) p q = ap Err (one-wrong-place v w (one-wrong-over Protection t bs v.0 w.0 p q))
 
-pub one-named : (t : Tree) (bs : List ℕ) (a b : Checked) (A B : Set) → NamesSET t bs a A → NamesSET t bs b B → (a ≡ b) × (A ≐ B)
-one-named t bs Fine Fine A B p q = (refl, λ u. iff-trans (p.1 u) (iff-sym (q.1 u)))
-one-named t bs Fine (Wrong k) A B p q = absurd (in-order-not-wrong-over Privilege t bs k p.0 q.0)
-one-named t bs (Wrong k) Fine A B p q = absurd (in-order-not-wrong-over Privilege t bs k q.0 p.0)
-one-named t bs (Wrong j) (Wrong k) A B p q = (ap Wrong (one-wrong-over Privilege t bs j k p.0 q.0), λ u. iff-trans (p.1 u) (iff-sym (q.1 u)))
+-- two answers with the same members, or with the same fault
+abbrev pub SameNamed : Result SecuronSet Wrong → Result SecuronSet Wrong → Type 0
+SameNamed (Ok a) (Ok b) = marked a.has ≐ marked b.has
+SameNamed (Ok a) (Err w) = ⊥
+SameNamed (Err w) (Ok a) = ⊥
+SameNamed (Err v) (Err w) = v ≡ w
+
+pub one-named : (t : Tree) (bs : List ℕ) (a b : Result SecuronSet Wrong) → NamesSET t bs a → NamesSET t bs b → SameNamed a b
+one-named t bs (Ok a) (Ok b) p q = λ u. iff-trans (p.1 u) (iff-sym (q.1 u))
+one-named t bs (Ok a) (Err w) p q = absurd (in-order-not-wrong-over Privilege t bs w.0 p.0 q)
+one-named t bs (Err w) (Ok b) p q = absurd (in-order-not-wrong-over Privilege t bs w.0 q.0 p)
+one-named t bs (Err v) (Err w) p q = one-wrong-place v w (one-wrong-over Privilege t bs v.0 w.0 p q)
 
 -- what is named leaves one value, in arrays of one length
-pub one-naming : (t : Tree) (bs : List ℕ) (a b : Named) → length a.set.has ≡ length b.set.has
-    → NamesSET t bs a.checked (marked a.set.has) → NamesSET t bs b.checked (marked b.set.has) → a ≡ b
-one-naming t bs a b long p q =
-    let o = one-named t bs a.checked b.checked (marked a.set.has) (marked b.set.has) p q in
-    let has = one_set a.set.has b.set.has long o.1 in
-    ap₂ (λ (c : Checked) (l : List Bool). record { checked = c; set = record { has = l } }) o.0 has
+pub one-naming : (t : Tree) (bs : List ℕ) (a b : Result SecuronSet Wrong)
+    → ((c d : SecuronSet) → a ≡ Ok c → b ≡ Ok d → length c.has ≡ length d.has) → NamesSET t bs a → NamesSET t bs b → a ≡ b
+one-naming t bs (Ok a) (Ok b) long p q =
+    let has = one_set a.has b.has (long a b refl refl) (one-named t bs (Ok a) (Ok b) p q) in
+    ap named_as has
+  where
+    named_as : List Bool → Result SecuronSet Wrong
+    named_as l = Ok (record { has = l })
+one-naming t bs (Ok a) (Err w) long p q = absurd (one-named t bs (Ok a) (Err w) p q)
+one-naming t bs (Err w) (Ok b) long p q = absurd (one-named t bs (Err w) (Ok b) p q)
+one-naming t bs (Err v) (Err w) long p q = ap Err (one-named t bs (Err v) (Err w) p q)
 
 -- what is said of a privilege: 0 if the bytes are in order; else 6 at their place
-pub name-answers : (t : Tree) (bs : List ℕ) (r : Checked) (A : Set) → NamesSET t bs r A
+pub name-answers : (t : Tree) (bs : List ℕ) (r : Result SecuronSet Wrong) → NamesSET t bs r
     → Decides (in_order Privilege t 0 bs ∷ []) (λ k. k ≡ 0) (check_answer r)
-name-answers t bs Fine A p = inr (p.0, (refl, refl))
-name-answers t bs (Wrong k) A p = inl ((λ w. in-order-not-wrong-over Privilege t bs k w p.0), refl, (k, p.0, sym (zero-add k)))
+name-answers t bs (Ok a) p = inr (p.0, (refl, refl))
+name-answers t bs (Err w) p = inl ((λ i. in-order-not-wrong-over Privilege t bs w.0 i p), refl, (w.0, p, sym (zero-add w.0)))
 
 -- what is said of a protection: 0 if the bytes are in order; else 6 at their place
-pub judge-answers : (t : Tree) (part : Mutable) (H : Set) (bs : List ℕ) (r : Judged) → Judges t part H bs r
-    → Decides (in_order Protection t 0 bs ∷ []) (λ k. k ≡ 0) (judge_answer r)
-judge-answers t part H bs Met p = inr (p.0, (refl, refl))
-judge-answers t part H bs NotMet p = inr (p.0, (refl, refl))
-judge-answers t part H bs (Faulty k) p = inl ((λ w. in-order-not-wrong-over Protection t bs k w p), refl, (k, p, sym (zero-add k)))
+pub judge-answers : (t : Tree) (part : Mutable) (H : Set) (bs : List ℕ) (r : Result Bool Wrong) → Judges t part H bs r
+    → Decides (in_order Protection t 0 bs ∷ []) (λ k. k ≡ 0) (check_answer r)
+judge-answers t part H bs (Ok met) p = inr (p.0, (refl, refl))
+judge-answers t part H bs (Err w) p = inl ((λ i. in-order-not-wrong-over Protection t bs w.0 i p), refl, (w.0, p, sym (zero-add w.0)))
 
 -- one place with a number added is one place
 pub one-added : (plus : ℕ) (Place : ℕ → Type 0) → AtMostOne Place → AtMostOne (Added plus Place)

@@ -1,9 +1,12 @@
 -- What is answered on bytes whatever: right, in order, met, named, or at fault; and 01's number and place for each answer. Definitions only.
-use Rattle.std.specs.Prelude.{Bool, true, false, List, ℕ, ◌<◌, length}
+use Rattle.std.specs.Prelude.{◌≡◌, Bool, true, ◌↔◌, List, ℕ, ◌<◌, length}
+use Rattle.std.specs.declared.result.Result.{Result}
+use Rattle.std.specs.declared.result.Result.TheVariants.{Ok, Err}
 use Rattle.answer.specs.declared.Answer.{Answer}
 use Rattle.answer.specs.Faults.{FaultAt}
 use Rattle.answer.specs.Numbers.{done, expression_wrong}
-use Rattle.securon.specs.Sets.{Set, empty, ◌≐◌}
+use Rattle.securon.specs.declared.SecuronSet.{SecuronSet}
+use Rattle.securon.specs.Sets.{Set, ◌≐◌, marked}
 use Rattle.tree.specs.declared.Tree.{Tree}
 use Rattle.expression.specs.declared.Kind.{Kind}
 use Rattle.expression.specs.declared.Kind.TheVariants.{Privilege, Protection}
@@ -11,12 +14,9 @@ use Rattle.expression.specs.Bytes.{Right, InOrder, WrongAt, SET, MeetsT1, MeetsT
 use Rattle.expression.specs.Judge.{InOrderOver, WrongOver}
 use Rattle.order.specs.declared.Scanned.{Scanned}
 use Rattle.order.specs.declared.Scanned.TheVariants.{Whole, Short, Fault}
-use Rattle.order.specs.declared.Checked.{Checked}
-use Rattle.order.specs.declared.Checked.TheVariants.{Fine, Wrong}
+use Rattle.order.specs.declared.Wrong.{Wrong}
 use Rattle.order.specs.declared.Mutable.{Mutable}
 use Rattle.order.specs.declared.Mutable.TheVariants.{T1, T2}
-use Rattle.order.specs.declared.Judged.{Judged}
-use Rattle.order.specs.declared.Judged.TheVariants.{Met, NotMet, Faulty}
 
 -- 0, done
 abbrev pub fine : Answer
@@ -32,16 +32,10 @@ scan_answer bs Whole = fine
 scan_answer bs Short = wrong (length bs)
 scan_answer bs (Fault k) = wrong k
 
--- the number and the place of what a check says
-abbrev pub check_answer : Checked → Answer
-check_answer Fine = fine
-check_answer (Wrong k) = wrong k
-
--- the number and the place of what is said of a protection; met or not, it is in order
-abbrev pub judge_answer : Judged → Answer
-judge_answer Met = fine
-judge_answer NotMet = fine
-judge_answer (Faulty k) = wrong k
+-- the number and the place of what was checked first: done; or at fault, whatever was to come of it
+abbrev pub check_answer : {A : Type 0} → Result A Wrong → Answer
+check_answer (Ok _) = fine
+check_answer (Err w) = wrong w.0
 
 -- what a scan of bytes says, however many they are: right as they are; right so far, but not whole; or the first byte that can't stand
 abbrev pub Finds : Kind → ℕ → ℕ → List ℕ → Scanned → Type 0
@@ -50,22 +44,21 @@ Finds kind n d bs Short = FaultAt (Right kind n d) bs (length bs)
 Finds kind n d bs (Fault k) = (k < length bs) × FaultAt (Right kind n d) bs k
 
 -- what the check of an expression in a request says: in order, or the place for 6
-abbrev pub Checks : Kind → ℕ → ℕ → List ℕ → Checked → Type 0
-Checks kind n d bs Fine = InOrder kind n d bs
-Checks kind n d bs (Wrong k) = WrongAt kind n d bs k
+abbrev pub Checks : Kind → ℕ → ℕ → List ℕ → Result (Unit {0}) Wrong → Type 0
+Checks kind n d bs (Ok _) = InOrder kind n d bs
+Checks kind n d bs (Err w) = WrongAt kind n d bs w.0
 
 -- H meets a mutable part, T1 or T2, each with its own meaning of length 0
 abbrev pub MeetsPart : Mutable → Tree → Set → List ℕ → Type 0
 MeetsPart T1 t H bs = MeetsT1 t H bs
 MeetsPart T2 t H bs = MeetsT2 t H bs
 
--- on the bytes of a protection: met, not met, or at fault
-abbrev pub Judges : Tree → Mutable → Set → List ℕ → Judged → Type 0
-Judges t part H bs Met = InOrderOver Protection t bs × MeetsPart part t H bs
-Judges t part H bs NotMet = InOrderOver Protection t bs × (MeetsPart part t H bs → ⊥)
-Judges t part H bs (Faulty k) = WrongOver Protection t bs k
+-- on the bytes of a protection: whether they are met; or at fault
+abbrev pub Judges : Tree → Mutable → Set → List ℕ → Result Bool Wrong → Type 0
+Judges t part H bs (Ok met) = InOrderOver Protection t bs × ((met ≡ true) ↔ MeetsPart part t H bs)
+Judges t part H bs (Err w) = WrongOver Protection t bs w.0
 
 -- on the bytes of a privilege: its SET; or at fault, and then no securon is named
-abbrev pub NamesSET : Tree → List ℕ → Checked → Set → Type 0
-NamesSET t bs Fine A = InOrderOver Privilege t bs × (A ≐ SET t bs)
-NamesSET t bs (Wrong k) A = WrongOver Privilege t bs k × (A ≐ empty)
+abbrev pub NamesSET : Tree → List ℕ → Result SecuronSet Wrong → Type 0
+NamesSET t bs (Ok set) = InOrderOver Privilege t bs × (marked set.has ≐ SET t bs)
+NamesSET t bs (Err w) = WrongOver Privilege t bs w.0

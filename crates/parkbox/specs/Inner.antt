@@ -1,19 +1,19 @@
 -- What the functions inside tell. A device of the proofs.
-use Rattle.std.specs.Prelude.{◌≡◌, Bool, true, false, List, [], ◌++◌, ℕ, ◌/◌, ◌%◌, ◌<◌, ◌≤◌, length, take, drop}
-use Rattle.answer.specs.declared.Answer.{Answer}
+use Rattle.std.specs.Prelude.{◌≡◌, Bool, true, false, Option, Some, None, List, [], ◌++◌, ℕ, ◌<◌, ◌≤◌, length, take, drop}
 use Rattle.records.specs.Records.{Unrecorded}
 use Rattle.script.specs.Script.{cut_line}
 use Rattle.door.specs.Box.{Call, IsBoxRecord}
 
--- how many bytes the record at the front has; 0 where none stands there
-pub record SizeIs (bs : List ℕ) (n : ℕ) : Type 0 where
+-- a record stands at the front, and has so many bytes
+pub record Sized (bs : List ℕ) (n : ℕ) : Type 0 where
+  pub some : 0 < n
   pub within : n ≤ length bs
-  pub stands : 0 < n → (c : Call) × IsBoxRecord (take n bs) c []
-  pub stands-not : n ≡ 0 → Unrecorded bs
+  pub stands : (c : Call) × IsBoxRecord (take n bs) c []
 
--- the answer that one number stands for
-abbrev pub unpacked : ℕ → Answer
-unpacked r = record { number = r % 256; place = r / 256 }
+-- how many bytes the record at the front has; or none stands there
+abbrev pub SizeIs : List ℕ → Option ℕ → Type 0
+SizeIs bs (Some n) = Sized bs n
+SizeIs bs None = Unrecorded bs
 
 -- what is printed where no record stands: `cut`, where bytes are left
 abbrev pub last_line : Bool → List ℕ

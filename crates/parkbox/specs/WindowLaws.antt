@@ -46,11 +46,13 @@ prints-out {b} w (past-record {mid = mid} {given = given} i d l p) q =
 -- the blocks of the windows, one after another, are what is printed from there
 blocks-out : {b : BoxRecord} {input blocks : List ℕ} → BoxBlocks b input blocks → BoxPrints b input blocks
 blocks-out {b} (block_last window later {before = before} {r = r} x m e) =
-    let is = ap (take r.n) x.is ∙ take_at x.printed (drop r.n before) r.n (sym x.count) in
+    let n = r.printed in
+    let is = ap (take n) x.is ∙ take_at x.printed (drop n before) n (sym x.count) in
     subst (BoxPrints b (window ++ later)) (sym is) (x.stops m later e)
-blocks-out {b} (block-next window later {before = before} {blocks = blocks} {r = r} x m more) =
-    let is = ap (take r.n) x.is ∙ take_at x.printed (drop r.n before) r.n (sym x.count) in
-    subst (λ (w : List ℕ). BoxPrints b (window ++ later) (w ++ blocks)) (sym is) (prints-out blocks (x.goes m later) (blocks-out more))
+blocks-out {b} (block-next window later {before = before} {blocks = blocks} {r = r} {used = used} x m more) =
+    let n = r.printed in
+    let is = ap (take n) x.is ∙ take_at x.printed (drop n before) n (sym x.count) in
+    subst (λ (w : List ℕ). BoxPrints b (window ++ later) (w ++ blocks)) (sym is) (prints-out blocks (x.goes used m later) (blocks-out more))
 
 -- and from the fresh box, what the whole input prints
 pub park-blocks : {input blocks : List ℕ} → BoxBlocks fresh_box input blocks → ParkPrints input blocks

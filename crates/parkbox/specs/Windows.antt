@@ -1,11 +1,11 @@
 -- A run that reads its input window by window, and what its windows print one after another. Definitions only.
-use Rattle.std.specs.Prelude.{◌≡◌, Bool, true, false, List, [], ◌++◌, ℕ, ◌+◌, ◌-◌, ◌*◌, ◌≤◌, length, take, drop}
+use Rattle.std.specs.Prelude.{◌≡◌, Bool, true, Option, Some, None, List, [], ◌++◌, ℕ, ◌+◌, ◌-◌, ◌*◌, ◌≤◌, length, take, drop}
 use Rattle.answer.specs.declared.Answer.{Answer}
 use Rattle.lines.specs.Lines.{Line}
 use Rattle.records.specs.Records.{longest_in_table}
 use Rattle.script.specs.Windows.{Waits}
 use Rattle.door.specs.declared.BoxRecord.{BoxRecord}
-use Rattle.door.specs.Box.{Call, fresh_box, IsBoxRecord, CallDoes}
+use Rattle.door.specs.Box.{Call, IsBoxRecord, CallDoes}
 use Rattle.parkbox.specs.declared.Parked.{Parked}
 use Rattle.parkbox.specs.Parking.{lent_room, BoxPrints}
 
@@ -21,27 +21,23 @@ abbrev pub line_lent : ℕ
 line_lent = 42 + 3 * lent_room
 
 -- ---- one window
--- a run before its first window
-abbrev pub unbegun : Parked
-unbegun = record { after = fresh_box; used = 0; n = 0; more = true }
-
--- a window was served: what it prints stands at the front of an output, whose rest keeps its content. Whatever comes later in the input, the run came so
--- far, or it is over; `ends` says that nothing comes later. Where it goes on, it has to wait
-pub record ParkedIs (b : BoxRecord) (window : List ℕ) (ends : Bool) (before after : List ℕ) (r : Parked) : Type 0 where
+-- a window was served on the box b, and `then` is the box after it: what it prints stands at the front of an output, whose rest keeps its content. Whatever
+-- comes later in the input, the run came so far, or it is over; `ends` says that nothing comes later. Where it goes on, it has to wait
+pub record ParkedIs (b : BoxRecord) (window : List ℕ) (ends : Bool) (before after : List ℕ) (then : BoxRecord) (r : Parked) : Type 0 where
   pub printed : List ℕ
-  pub count : r.n ≡ length printed
-  pub fits : r.n ≤ length before
-  pub is : after ≡ printed ++ drop r.n before
-  pub within : r.used ≤ length window
-  pub goes : r.more ≡ true → (later : List ℕ) → PrintsTo b (window ++ later) r.after (drop r.used window ++ later) printed
-  pub stops : r.more ≡ false → (later : List ℕ) → (ends ≡ true → later ≡ []) → BoxPrints b (window ++ later) printed
-  pub waits : r.more ≡ true → Waits longest_in_table line_lent ends (length window - r.used) (length before - r.n)
+  pub count : r.printed ≡ length printed
+  pub fits : r.printed ≤ length before
+  pub is : after ≡ printed ++ drop r.printed before
+  pub within : (used : ℕ) → r.used ≡ Some used → used ≤ length window
+  pub goes : (used : ℕ) → r.used ≡ Some used → (later : List ℕ) → PrintsTo b (window ++ later) then (drop used window ++ later) printed
+  pub stops : r.used ≡ None → (later : List ℕ) → (ends ≡ true → later ≡ []) → BoxPrints b (window ++ later) printed
+  pub waits : (used : ℕ) → r.used ≡ Some used → Waits longest_in_table line_lent ends (length window - used) (length before - r.printed)
 
 -- ---- one window after another
 -- each window is the front of what is left of the input, and what it prints is a block: these are the blocks, up to the end of the run
 pub data BoxBlocks : BoxRecord → List ℕ → List ℕ → Type 0 where
-  block_last : (window later : List ℕ) {b : BoxRecord} {ends : Bool} {before after : List ℕ} {r : Parked}
-      → ParkedIs b window ends before after r → r.more ≡ false → (ends ≡ true → later ≡ []) → BoxBlocks b (window ++ later) (take r.n after)
-  block-next : (window later : List ℕ) {b : BoxRecord} {ends : Bool} {before after blocks : List ℕ} {r : Parked}
-      → ParkedIs b window ends before after r → r.more ≡ true → BoxBlocks r.after (drop r.used window ++ later) blocks
-      → BoxBlocks b (window ++ later) (take r.n after ++ blocks)
+  block_last : (window later : List ℕ) {b then : BoxRecord} {ends : Bool} {before after : List ℕ} {r : Parked}
+      → ParkedIs b window ends before after then r → r.used ≡ None → (ends ≡ true → later ≡ []) → BoxBlocks b (window ++ later) (take r.printed after)
+  block-next : (window later : List ℕ) {b then : BoxRecord} {ends : Bool} {before after blocks : List ℕ} {r : Parked} {used : ℕ}
+      → ParkedIs b window ends before after then r → r.used ≡ Some used → BoxBlocks then (drop used window ++ later) blocks
+      → BoxBlocks b (window ++ later) (take r.printed after ++ blocks)

@@ -1,13 +1,11 @@
-// A box that lives as long as its input: records from standard input; per record a line with the number, the place and the bytes given out. `refill` and the
-// functions after it read and write; all else stands in the functions before it, over slices.
+// A box that lives as long as its input: records from standard input; per record a line with the number, the place and the bytes given out. `run` and `main`
+// read and write; all else stands in the functions before them, over slices.
 #![tactic(auto)]
 
-ghost use Rattle.std.specs.Prelude.{◌≡◌, ◌≤◌, ◌+◌, ◌*◌, length, take, IfOk};
-ghost use Rattle.lines.specs.Lines.{Fills};
-ghost use Rattle.parkbox.specs.Windows.{line_lent, unbegun, ParkedIs};
-ghost use Rattle.parkbox.specs.Inner.{SizeIs, unpacked, LastTold};
+ghost use Rattle.std.specs.Prelude.{◌≤◌, length};
+ghost use Rattle.parkbox.specs.Windows.{line_lent, ParkedIs};
+ghost use Rattle.parkbox.specs.Inner.{SizeIs, LastTold};
 
-use answer::Answer;
 use door::BoxRecord;
 use script::WINDOW;
 use std::env::{Env, FillError};
@@ -23,45 +21,18 @@ const GIVEN: usize = 512;
 // The most bytes of a line: 20 digits twice, a space, three for each byte that is given out, and the line end.
 const LINE: usize = 42 + 3 * GIVEN;
 
-// How far a run came: the box; of its last window, how many bytes were used, how many were printed, and whether the run goes on.
-#[derive(Clone, Copy)]
+// How far a window was served: how many bytes were printed, and, where the run goes on, how many bytes were used.
+#[derive(Clone, Copy, PartialEq, Eq, Debug)]
 struct Parked {
-    after: BoxRecord,
-    used: usize,
-    n: usize,
-    more: bool,
+    printed: usize,
+    used: Option<usize>,
 }
 
-// So far a run came.
-fn came_to(after: BoxRecord, used: usize, n: usize, more: bool) -> Parked
-    ensures { result ≡ record { after = after; used = used; n = n; more = more } }
-{
-    Parked {
-        after,
-        used,
-        n,
-        more,
-    }
-}
-
-// How many bytes the record at the front has. Where none stands there, 0.
-fn next_size(rest: &[u8]) -> usize
+// How many bytes the record at the front has, where one stands there.
+fn next_size(rest: &[u8]) -> Option<usize>
     ensures { SizeIs rest.now result }
 {
-    let parted = records::read_record(rest);
-    parted.end
-}
-
-// The line of an answer that is packed in one number, with the first k bytes of those given.
-fn tell_answer(answer: u64, given: &[u8], k: usize, out: &mut [u8]) -> usize
-    requires { 42 + 3 * length given.now ≤ length out.old }
-    ensures { Fills (unpacked answer) (take k given.now) out.old out.new result }
-{
-    let a = Answer {
-        number: (answer % 256) as u8,
-        place: (answer / 256) as usize,
-    };
-    lines::print(a, given, k, out)
+    Some(records::read_record(rest)?.end)
 }
 
 // What is printed where no record stands: `cut`, where bytes are left.
@@ -72,107 +43,62 @@ fn tell_last(left: bool, out: &mut [u8]) -> usize
     if !left {
         return 0;
     }
-    out[0] = b'c';
-    out[1] = b'u';
-    out[2] = b't';
-    out[3] = b'\n';
+    out[..4].copy_from_slice(b"cut\n");
     4
 }
 
 // The records at the front of a window, one after another, each on the box that the one before it left, while the next one is decided and its line has
-// room. A load leaves a box of its own; any other record alters the slots and one file.
-fn serve_window(from: BoxRecord, window: &[u8], ends: bool, out: &mut [u8]) -> Parked
-    ensures { ParkedIs from window.now ends out.old out.new result }
+// room.
+fn serve_window(b: &mut BoxRecord, window: &[u8], ends: bool, out: &mut [u8]) -> Parked
+    ensures { ParkedIs b.old window.now ends out.old out.new b.new result }
 {
-    let mut state = from.state;
-    let mut used = 0;
+    let mut rest = window;
     let mut n = 0;
-    while script::may_play(LONGEST, LINE, ends, window.len() - used, out.len() - n) {
-        let b = BoxRecord { state };
-        let size = next_size(&window[used..]);
-        if size == 0 {
-            n += tell_last(used < window.len(), &mut out[n..]);
-            return came_to(b, used, n, false);
-        }
-        let end = used + size;
+    while script::may_play(LONGEST, LINE, ends, rest.len(), out.len() - n) {
+        let Some(size) = next_size(rest) else {
+            n += tell_last(!rest.is_empty(), &mut out[n..]);
+            return Parked {
+                printed: n,
+                used: None,
+            };
+        };
         let mut given = [0u8; GIVEN];
-        let served = door::serve_record(b, &window[used..end], &mut given);
-        if served.loads {
-            let loaded = door::load_record(b, &window[used..end]);
-            n += tell_answer(loaded.answer, &given, 0, &mut out[n..]);
-            used = end;
-            let after = loaded.after;
-            state = after.state;
-            continue;
-        }
-        n += tell_answer(served.answer, &given, served.given, &mut out[n..]);
-        used = end;
-        let slots = served.slots;
-        let i = served.at;
-        let file = served.file;
-        state.slots = slots;
-        state.files[i] = file;
+        let served = door::serve(b, &rest[..size], &mut given);
+        n += lines::print(served.answer, &given, served.given, &mut out[n..]);
+        rest = &rest[size..];
     }
-    came_to(BoxRecord { state }, used, n, true)
+    Parked {
+        printed: n,
+        used: Some(window.len() - rest.len()),
+    }
 }
 
-// A run before its first window.
-fn begin_run() -> Parked
-    ensures { result ≡ unbegun }
-{
-    came_to(door::fresh_box(), 0, 0, true)
-}
-
-// More of the input after the n bytes that the window holds, until it is full, unless the input has ended; how many it holds then.
-fn refill<R: Read>(input: &mut R, window: &mut [u8], n: usize, ends: bool) -> io::Result<usize>
-    requires { n ≤ length window.old }
-    ensures { IfOk result (λ held. held ≤ length window.old) }
-{
-    if ends {
-        return Ok(n);
-    }
-    let mut held = n;
-    while held < window.len() {
-        let got = input.read(&mut window[held..])?;
-        if got == 0 {
-            break;
-        }
-        held += got;
-    }
-    Ok(held)
-}
-
-// One window after another. Nothing says that the input ends, so the loop has a bound that no run comes to.
+// One window after another. Nothing says that the input ends, so the loop has a bound that no run comes to. replay's loop is over another state and serves
+// by another function: one loop for both would be given five functions of a state.
 fn run<R: Read, W: Write>(input: &mut R, output: &mut W) -> io::Result<()> {
     let mut window = [0u8; WINDOW];
     let mut out = [0u8; WINDOW];
-    let mut p = begin_run();
-    let mut n = 0usize;
+    let mut b = door::fresh_box();
+    let mut used = 0;
+    let mut n = 0;
     let mut ends = false;
     for _ in 0..u64::MAX {
-        if !p.more {
-            break;
-        }
-        let used = p.used;
         let held = script::to_front(&mut window, used, n);
-        n = refill(input, &mut window, held, ends)?;
+        n = lines::refill(input, &mut window, held, ends)?;
         ends = n < WINDOW;
-        let b = p.after;
-        p = serve_window(b, &window[..n], ends, &mut out);
-        let k = p.n;
-        output.write_all(&out[..k])?;
+        let parked = serve_window(&mut b, &window[..n], ends, &mut out);
+        output.write_all(&out[..parked.printed])?;
+        let Some(further) = parked.used else {
+            break;
+        };
+        used = further;
     }
     Ok(())
 }
 
-// Whether the program was given an argument.
-fn has_argument(rt: &impl Env) -> bool {
-    let mut name = [0u8; 1];
-    !matches!(rt.arg(1, &mut name), Err(FillError::NotPresent))
-}
-
 fn main(rt: HostRuntime) -> io::Result<()> {
-    if has_argument(&rt) {
+    let argument = rt.arg(1, &mut [0u8; 1]);
+    if !matches!(argument, Err(FillError::NotPresent)) {
         return eprintln!(rt; "usage: parkbox < records");
     }
     run(&mut rt.stdin(), &mut rt.stdout())

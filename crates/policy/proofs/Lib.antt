@@ -1,5 +1,3 @@
-pub mod Places
 pub mod Slots
-pub mod Trees
 pub mod Test
-pub mod Walks
+pub mod Trees

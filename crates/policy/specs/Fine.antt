@@ -1,14 +1,16 @@
 -- Well formed, shelf by shelf, as the examination goes: what each of its functions tells. A device of the proofs.
-use Rattle.std.specs.Prelude.{◌≡◌, refl, Bool, true, false, List, ◌↔◌, ℕ, ◌<◌, ◌≤◌, ltb, length, get_or}
+use Rattle.std.specs.Prelude.{◌≡◌, IsSome, refl, Bool, true, false, List, ◌↔◌, ℕ, ◌<◌, ◌≤◌, ltb, length, get_or}
 use Rattle.tree.specs.declared.Tree.{Tree}
 use Rattle.securon.specs.Sets.{set_room}
+use Rattle.std.specs.declared.option.Option.{Option}
+use Rattle.std.specs.declared.option.Option.TheVariants.{Some}
+use Rattle.tree.specs.Grown.{Leveled}
 use Rattle.tree.specs.Tree.{IsTree, LevelsOf}
 use Rattle.shelf.specs.Shelf.{ZeroShelf}
 use Rattle.shelf.specs.Fine.{ShelfIs}
 use Rattle.policy.specs.declared.Role.{Role}
 use Rattle.policy.specs.declared.File.{File}
 use Rattle.policy.specs.declared.State.{State}
-use Rattle.policy.specs.declared.Grown.{Grown}
 use Rattle.policy.specs.State.{most_roles, most_files, slot_count, role_places, file_places, off_role, off_file, By, held_in, role_in}
 
 -- what roles and files have in common: shelves of so many places, so many of them, and nothing past the last
@@ -80,12 +82,10 @@ pub record TreeFine (t : Tree) : Type 0 where
   pub root : get_or t.parent 0 0 ≡ 0
   pub past : (u : ℕ) → t.n ≤ u → get_or t.parent u 0 ≡ 0
 
--- what the test of a tree tells
-pub record TreeExamined (t : Tree) (r : Grown) : Type 0 where
-  pub says : (r.ok ≡ true) ↔ TreeFine t
-  pub some : 0 < r.n
-  pub count : TreeFine t → r.n ≡ t.n
-  pub levels : TreeFine t → LevelsOf t r.levels
+-- the tree with its levels where P holds, and only there
+pub record GrownIf (P : Type 0) (t : Tree) (r : Option Leveled) : Type 0 where
+  pub says : IsSome r ↔ P
+  pub is : (g : Leveled) → r ≡ Some g → (g.tree ≡ t) × LevelsOf t g.levels
 
 -- a state part by part, over the depth d of its tree
 pub record StateFine (s : State) (d : ℕ) : Type 0 where
@@ -94,6 +94,14 @@ pub record StateFine (s : State) (d : ℕ) : Type 0 where
   pub file-count : s.nfiles ≤ most_files
   pub roles : AllAre role_shelves (role_used s) s.tree.n d s.roles
   pub files : AllAre file_shelves (file_used s) s.tree.n d s.files
+  pub slots : SlotsAre s.nroles s.slots
+
+-- all but the tree, over n securons and the depth d
+pub record PartsFine (s : State) (n d : ℕ) : Type 0 where
+  pub role-count : s.nroles ≤ most_roles
+  pub file-count : s.nfiles ≤ most_files
+  pub roles : AllAre role_shelves (role_used s) n d s.roles
+  pub files : AllAre file_shelves (file_used s) n d s.files
   pub slots : SlotsAre s.nroles s.slots
 
 -- the state with these parts

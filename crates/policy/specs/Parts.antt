@@ -3,7 +3,7 @@ use Rattle.std.specs.Prelude.{◌≡◌, true, ℕ, ◌/◌, ◌%◌, ◌<◌}
 use Rattle.std.proofs.Common.{sym, subst, arith}
 use Rattle.std.proofs.Math.Decide.{dec_lt, ℕ_discrete}
 use Rattle.expression.specs.declared.Kind.{Kind}
-use Rattle.expression.specs.declared.Kind.TheVariants.{Privilege, Protection}
+use Rattle.expression.specs.declared.Kind.TheVariants.{Privilege}
 use Rattle.policy.specs.declared.Role.{Role}
 use Rattle.policy.specs.declared.File.{File}
 use Rattle.policy.specs.State.{role_places, file_places, v_plus_place, v_minus_place, t1_place, e_place, t2_place, g_place}

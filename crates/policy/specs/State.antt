@@ -2,10 +2,12 @@
 use Rattle.std.specs.Prelude.{◌≡◌, List, [], ℕ, zero, suc, ◌+◌, ◌*◌, ◌<◌, length, get_or, set, replicate}
 use Rattle.securon.specs.Sets.{set_room}
 use Rattle.tree.specs.declared.Tree.{Tree}
-use Rattle.tree.specs.declared.Levels.{Levels}
-use Rattle.tree.specs.Tree.{root_level}
 use Rattle.expression.specs.Bytes.{longest}
 use Rattle.shelf.specs.Shelf.{stored_at, put_bytes}
+use Rattle.policy.specs.declared.Sense.{Sense}
+use Rattle.policy.specs.declared.Sense.TheVariants.{Plus, Minus}
+use Rattle.policy.specs.declared.Part.{Part}
+use Rattle.policy.specs.declared.Part.TheVariants.{T1, E, T2, G}
 use Rattle.policy.specs.declared.Role.{Role}
 use Rattle.policy.specs.declared.File.{File}
 use Rattle.policy.specs.declared.State.{State}
@@ -46,6 +48,10 @@ change_protection = 4
 abbrev pub senses : ℕ
 senses = 2
 
+abbrev pub sense_number : Sense → ℕ
+sense_number Plus = 0
+sense_number Minus = 1
+
 abbrev pub role_place : ℕ → ℕ → ℕ
 role_place mode sense = senses * mode + sense
 
@@ -70,6 +76,12 @@ role_places = m1_place + 3
 -- the places of a file's expressions: mode after mode, T1, E, T2, G
 abbrev pub parts : ℕ
 parts = 4
+
+abbrev pub part_number : Part → ℕ
+part_number T1 = 0
+part_number E = 1
+part_number T2 = 2
+part_number G = 3
 
 abbrev pub file_place : ℕ → ℕ → ℕ
 file_place mode part = parts * mode + part
@@ -173,10 +185,6 @@ t2_of s file mode = file_part (file_at s file) (t2_place mode)
 
 abbrev pub g_of : State → ℕ → ℕ → List ℕ
 g_of s file mode = file_part (file_at s file) (g_place mode)
-
--- the levels of what is no tree
-abbrev pub no_levels : Levels
-no_levels = record { of = replicate set_room root_level; depth = root_level }
 
 -- the fresh state has the root alone, no role, no file, all slots free; unused room is zero
 abbrev pub no_role : Role

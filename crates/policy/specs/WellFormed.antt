@@ -1,7 +1,9 @@
 -- When a state is well formed, and what its examination tells. 01, "Requests": "Well formed means: counts and tree as above, every stored expression in order
 -- for its kind, held roles present, unused room zero." Definitions only.
-use Rattle.std.specs.Prelude.{◌≡◌, true, ◌↔◌, ℕ, ◌<◌, ◌≤◌, length, get_or}
+use Rattle.std.specs.Prelude.{◌≡◌, ◌↔◌, IsSome, ℕ, ◌<◌, ◌≤◌, length, get_or}
 use Rattle.securon.specs.Sets.{set_room}
+use Rattle.std.specs.declared.option.Option.TheVariants.{Some}
+use Rattle.tree.specs.Grown.{Leveled}
 use Rattle.tree.specs.Tree.{IsTree, IsDepth, LevelsOf}
 use Rattle.expression.specs.declared.Kind.TheVariants.{Privilege, Protection}
 use Rattle.shelf.specs.Shelf.{HasPlaces, PartInOrder, room_past, AllZero, ZeroShelf}
@@ -10,7 +12,7 @@ use Rattle.policy.specs.declared.File.{File}
 use Rattle.policy.specs.declared.State.{State}
 use Rattle.policy.specs.declared.Examined.{Examined}
 use Rattle.policy.specs.State.{most_roles, most_files, slot_count, IsMode, role_places, file_places, v_plus_place, v_minus_place, m1_place, m2_place, b_place}
-use Rattle.policy.specs.State.{t1_place, e_place, t2_place, g_place, role_at, file_at, RolePresent, Present, By, hold_of, role_of, no_levels}
+use Rattle.policy.specs.State.{t1_place, e_place, t2_place, g_place, role_at, file_at, RolePresent, Present, By, hold_of, role_of}
 
 -- the room of a state: a parent for each securon, 32 roles of thirteen places, 32 files of twenty places, sixteen slots, each place of 48 bytes.
 -- Every state that code holds has it
@@ -63,12 +65,11 @@ pub record WellFormed (s : State) : Type 0 where
   -- unused room zero
   pub unused-zero : UnusedZero s
 
--- what the examination of a state tells: whether it is well formed, and if so the levels of its tree; with it all that a request needs of the state:
+-- what the examination of a state tells: where it is well formed, and only there, its tree with the levels; with it all that a request needs of the state:
 -- the tree, the counts and the slots, the role that a slot holds, and a file with its number
 pub record Examines (s : State) (slot file : ℕ) (r : Examined) : Type 0 where
-  pub says : (r.ok ≡ true) ↔ WellFormed s
-  pub levels : WellFormed s → LevelsOf s.tree r.levels
-  pub no-levels : (WellFormed s → ⊥) → r.levels ≡ no_levels
+  pub says : IsSome r.grown ↔ WellFormed s
+  pub grown-is : (g : Leveled) → r.grown ≡ Some g → (g.tree ≡ s.tree) × LevelsOf s.tree g.levels
   pub tree_is : r.tree ≡ s.tree
   pub nroles-is : r.nroles ≡ s.nroles
   pub nfiles-is : r.nfiles ≡ s.nfiles

@@ -1,19 +1,21 @@
 // The state: the tree, roles, files and slots; the fresh state; its examination; stores (01, "Rows, roles and the test", "Requests").
 #![tactic(auto)]
 
-ghost use Rattle.std.specs.Prelude.{◌≡◌, true, false, ◌↔◌, ◌+◌, ◌<◌, ◌≤◌, length};
+ghost use Rattle.std.specs.Prelude.{◌≡◌, true, ◌↔◌, ◌+◌, ◌<◌, ◌≤◌, ltb, length, get_or};
 ghost use Rattle.expression.specs.Bytes.{longest};
+ghost use Rattle.shelf.specs.Shelf.{stored_at, PutAt};
 ghost use Rattle.tree.specs.Tree.{IsTree};
-ghost use Rattle.policy.specs.State.{IsMode, most_roles, most_files, file_places, senses, parts, role_place, file_place, no_role, no_file};
-ghost use Rattle.policy.specs.State.{no_levels, fresh_state, Free, By, held_in, slot_with, role_in, put_pair};
-ghost use Rattle.shelf.specs.Shelf.{ZeroShelf};
-ghost use Rattle.shelf.specs.Fine.{ShelfFine};
-ghost use Rattle.policy.specs.WellFormed.{Examines};
-ghost use Rattle.policy.specs.Fine.{role_shelves, file_shelves, OneIs, SlotIs, SlotsAre, RoleHeld, TreeFine, TreeExamined, state_of_parts};
+ghost use Rattle.policy.specs.State.{IsMode, most_roles, most_files, file_places, sense_number, part_number, role_place, file_place};
+ghost use Rattle.policy.specs.State.{fresh_state, Free, By, held_in, slot_with, role_in, put_pair};
+ghost use Rattle.policy.specs.WellFormed.{WellFormed, Examines};
+ghost use Rattle.policy.specs.Fine.{Shelving, OneIs, AllAre, SlotIs, SlotsAre, RoleHeld, TreeFine, GrownIf, PartsFine};
+
+mod files;
+mod roles;
 
 use expression::LONGEST;
-use securon::{Level, ROOM};
-use tree::{Levels, Tree};
+use securon::ROOM;
+use tree::{Grown, Tree, TreeSize};
 
 // The most roles and the most files; the slots.
 pub const ROLES: usize = 32;
@@ -22,7 +24,7 @@ pub const FILES: usize = 32;
 
 pub const SLOTS: usize = 16;
 
-// The modes.
+// The modes: numbers, since a request and C have any byte as a mode (13 for every other), and the definitions of rows (`IsMode`) are over numbers.
 pub const MODES: usize = 5;
 
 pub const READ: usize = 0;
@@ -38,9 +40,11 @@ pub const CHANGE_PROTECTION: usize = 4;
 // A role's places: V+ and V- mode after mode, then M1, M2, B.
 pub const SENSES: usize = 2;
 
-pub const V_PLUS: usize = 0;
-
-pub const V_MINUS: usize = 1;
+#[derive(Clone, Copy, Debug, PartialEq, Eq)]
+pub enum Sense {
+    Plus,
+    Minus,
+}
 
 pub const M1_PLACE: usize = SENSES * MODES;
 
@@ -55,19 +59,20 @@ pub const ROLE_BYTES: usize = LONGEST * ROLE_PLACES;
 // A file's places: T1, E, T2, G mode after mode.
 pub const PARTS: usize = 4;
 
-pub const T1: usize = 0;
-
-pub const E: usize = 1;
-
-pub const T2: usize = 2;
-
-pub const G: usize = 3;
+#[derive(Clone, Copy, Debug, PartialEq, Eq)]
+pub enum Part {
+    T1,
+    E,
+    T2,
+    G,
+}
 
 pub const FILE_PLACES: usize = PARTS * MODES;
 
 pub const FILE_BYTES: usize = LONGEST * FILE_PLACES;
 
-// A role and a file are shelves of expressions (crate shelf).
+// A role and a file are shelves of expressions (crate shelf). Two structs, and not one with its sizes as parameters, since C keeps them:
+// an exported function takes no struct with parameters.
 #[repr(C)]
 #[derive(Clone, Copy)]
 pub struct Role {
@@ -85,6 +90,7 @@ pub struct File {
 // A slot is a number: 0 is free, k + 1 holds role k. The state holds numbers alone, so that any memory of its size is a state.
 pub const FREE: u16 = 0;
 
+// Roles and files are arrays with a count beside them: fixed memory, which C keeps.
 #[repr(C)]
 #[derive(Clone, Copy)]
 pub struct State {
@@ -96,13 +102,12 @@ pub struct State {
     pub slots: [u16; SLOTS],
 }
 
-// What the examination of a state finds: whether it is well formed, and if so the levels of its tree. With it all that a request needs of the state,
+// What the examination of a state finds: where it is well formed, its tree with the levels. With it all that a request needs of the state,
 // so that the state is gone through once: the tree, the counts, the slots, the role that a slot holds, and a file with its number.
 #[derive(Clone, Copy)]
 pub struct Examined {
-    pub ok: bool,
+    pub grown: Option<Grown>,
     pub tree: Tree,
-    pub levels: Levels,
     pub nroles: usize,
     pub nfiles: usize,
     pub slots: [u16; SLOTS],
@@ -111,27 +116,21 @@ pub struct Examined {
     pub file: File,
 }
 
-// What the test of the tree finds; n is the number of its securons, and 1 of what is no tree.
-#[derive(Clone, Copy)]
-struct Grown {
-    ok: bool,
-    n: usize,
-    levels: Levels,
-}
-
-// The place of V+ or V- of a mode.
-pub fn role_place(mode: usize, sense: usize) -> usize
-    requires { IsMode mode × (sense < senses) }
-    ensures { result ≡ role_place mode sense }
+// The place of V+ or V- of a mode. (By itself, as `file_place` is: one function for both would need a trait over two enums.)
+pub fn role_place(mode: usize, sense: Sense) -> usize
+    requires { IsMode mode }
+    ensures { result ≡ role_place mode (sense_number sense) }
 {
+    let sense = sense as usize;
     SENSES * mode + sense
 }
 
 // The place of T1, E, T2 or G of a mode.
-pub fn file_place(mode: usize, part: usize) -> usize
-    requires { IsMode mode × (part < parts) }
-    ensures { result ≡ file_place mode part }
+pub fn file_place(mode: usize, part: Part) -> usize
+    requires { IsMode mode }
+    ensures { result ≡ file_place mode (part_number part) }
 {
+    let part = part as usize;
     PARTS * mode + part
 }
 
@@ -146,62 +145,41 @@ pub fn is_free(slot: u16) -> bool
 pub fn held_by(role: u8) -> u16
     ensures { result ≡ slot_with (By role) }
 {
-    role as u16 + 1
+    u16::from(role) + 1
 }
 
-// A role that is there: a shelf of privilege expressions.
-fn role_fine(r: Role, n: usize, depth: Level) -> bool
-    requires { 0 < n }
-    ensures { (result ≡ true) ↔ ShelfFine false n depth.0 r.lens r.bytes }
-{
-    shelf::fine(false, n, depth, &r.lens, &r.bytes)
+// What roles and files have in common: they are shelves.
+pub trait Row {
+    ghost shelves: { Shelving Self };
+
+    // The expression at place k.
+    fn stored(&self, k: usize) -> &[u8]
+        requires { (k < shelves.places) × (get_or (shelves.lens_of self.now) k 0 ≤ longest) }
+        ensures { result.now ≡ stored_at (shelves.lens_of self.now) (shelves.bytes_of self.now) k };
+
+    // Stores x at place k; all else stays.
+    fn put(&mut self, k: usize, x: &[u8])
+        requires { (k < shelves.places) × (length x.now ≤ longest) }
+        ensures { PutAt (shelves.lens_of self.old) (shelves.bytes_of self.old) k x.now (shelves.lens_of self.new) (shelves.bytes_of self.new) };
+
+    // One that is there is fine; one that is not is zero.
+    fn is_used_or_zero(&self, used: bool, size: TreeSize) -> bool
+        ensures { (result ≡ true) ↔ OneIs shelves used size.n size.depth.0 self.now };
 }
 
-// A role that is not there. (By itself, so that it is tested where it stands and not taken out first.)
-fn role_zero(r: Role) -> bool
-    ensures { (result ≡ true) ↔ ZeroShelf r.lens r.bytes }
+// All roles, or all files: those below the count are there. A flag and no early return, as in `shelf::all_zero`.
+fn all_are<R: Row>(rows: &[R], count: usize, size: TreeSize) -> bool
+    requires { length rows.now ≡ R.shelves.most }
+    ensures { (result ≡ true) ↔ AllAre R.shelves (λ i. ltb i count) size.n size.depth.0 rows.now }
 {
-    shelf::zero(&r.lens, &r.bytes)
-}
-
-// One role: one that is there is fine, one that is not is zero.
-fn role_is(r: Role, used: bool, n: usize, depth: Level) -> bool
-    requires { 0 < n }
-    ensures { (result ≡ true) ↔ OneIs role_shelves used n depth.0 r }
-{
-    if used {
-        return role_fine(r, n, depth);
+    let mut ok = true;
+    for (i, row) in rows.iter().enumerate() {
+        ok &= row.is_used_or_zero(i < count, size);
     }
-    role_zero(r)
+    ok
 }
 
-// A file that is there: a shelf with protection expressions at T1 and T2.
-fn file_fine(f: File, n: usize, depth: Level) -> bool
-    requires { 0 < n }
-    ensures { (result ≡ true) ↔ ShelfFine true n depth.0 f.lens f.bytes }
-{
-    shelf::fine(true, n, depth, &f.lens, &f.bytes)
-}
-
-// A file that is not there. (By itself, so that it is tested where it stands and not taken out first.)
-fn file_zero(f: File) -> bool
-    ensures { (result ≡ true) ↔ ZeroShelf f.lens f.bytes }
-{
-    shelf::zero(&f.lens, &f.bytes)
-}
-
-// One file: one that is there is fine, one that is not is zero.
-fn file_is(f: File, used: bool, n: usize, depth: Level) -> bool
-    requires { 0 < n }
-    ensures { (result ≡ true) ↔ OneIs file_shelves used n depth.0 f }
-{
-    if used {
-        return file_fine(f, n, depth);
-    }
-    file_zero(f)
-}
-
-// A number below `most`: the one that is asked for, where it is one, else 0.
+// A number below `most`: the one that is asked for, where it is one, else 0. (No Option: `Examines` promises the 0.)
 fn below(want: usize, most: usize) -> usize
     requires { 0 < most }
     ensures { (result < most) × (want < most → result ≡ want) × (most ≤ want → result ≡ 0) }
@@ -216,180 +194,63 @@ fn below(want: usize, most: usize) -> usize
 fn slot_is(slot: u16, count: usize) -> bool
     ensures { (result ≡ true) ↔ SlotIs count slot }
 {
-    slot as usize <= count
+    usize::from(slot) <= count
 }
 
 // Every held role is below the count.
-fn slots_are(slots: [u16; SLOTS], count: usize) -> bool
-    ensures { (result ≡ true) ↔ SlotsAre count slots }
+fn slots_are(slots: &[u16; SLOTS], count: usize) -> bool
+    ensures { (result ≡ true) ↔ SlotsAre count slots.now }
 {
     let mut ok = true;
-    for i in 0..SLOTS {
-        ok = ok & slot_is(slots[i], count);
+    for slot in slots {
+        ok &= slot_is(*slot, count);
     }
     ok
-}
-
-// The counts of roles and of files are in range.
-fn counts_fit(nroles: usize, nfiles: usize) -> bool
-    ensures { (result ≡ true) ↔ ((nroles ≤ most_roles) × (nfiles ≤ most_files)) }
-{
-    (nroles <= ROLES) & (nfiles <= FILES)
 }
 
 // The number of the role that a slot holds; 0 where it is free.
 fn number_held(slot: u16) -> usize
     ensures { result ≡ role_in (held_in slot) }
 {
-    if slot == FREE {
-        return 0;
-    }
-    slot as usize - 1
+    usize::from(slot.saturating_sub(1))
 }
 
 // The number of the role of a session, below 32 whatever the slot.
-fn role_held(slots: [u16; SLOTS], slot: usize) -> usize
-    ensures { RoleHeld slots slot result }
+fn role_held(slots: &[u16; SLOTS], slot: usize) -> usize
+    ensures { RoleHeld slots.now slot result }
 {
-    if SLOTS <= slot {
-        return 0;
-    }
-    below(number_held(slots[slot]), ROLES)
+    let held = slots.get(slot).copied().unwrap_or(FREE);
+    below(number_held(held), ROLES)
 }
 
 // Of a tree, whether the parents that no securon has, those of the root and from n up, are zero.
-fn rest_zero(tree: Tree) -> bool
-    requires { IsTree tree }
-    ensures { (result ≡ true) ↔ TreeFine tree }
+fn rest_zero(tree: &Tree) -> bool
+    requires { IsTree tree.now }
+    ensures { (result ≡ true) ↔ TreeFine tree.now }
 {
-    let n = tree.n;
-    let parent = tree.parent;
-    (parent[0] == 0) & shelf::all_zero(&parent[n..])
+    let parent = &tree.parent;
+    (parent[0] == 0) & shelf::all_zero(&parent[tree.n..])
 }
 
-// Whether it is a tree, and unused room is zero.
-fn tree_fine(tree: Tree) -> bool
-    ensures { (result ≡ true) ↔ TreeFine tree }
+// The tree with its levels, where it is one and unused room is zero.
+fn examine_tree(tree: &Tree) -> Option<Grown>
+    ensures { GrownIf (TreeFine tree.now) tree.now result }
 {
-    if tree.grown() {
-        return rest_zero(tree);
+    if tree.grown() && rest_zero(tree) {
+        return Some(tree.grow());
     }
-    false
+    None
 }
 
-// The levels of what is no tree.
-fn no_levels() -> Levels
-    ensures { result ≡ no_levels }
+// The file with x stored at place k, and y two places on: T1 with T2, or E with G.
+pub fn put_pair(file: &File, k: usize, x: &[u8], y: &[u8]) -> File
+    requires { (k + 2 < file_places) × (length x.now ≤ longest) × (length y.now ≤ longest) }
+    ensures { result ≡ put_pair file.now k x.now y.now }
 {
-    Levels {
-        of: [Level(0); ROOM],
-        depth: Level(0),
-    }
-}
-
-// These levels, or none.
-fn levels_if(ok: bool, levels: Levels) -> Levels
-    ensures { (ok ≡ true → result ≡ levels) × (ok ≡ false → result ≡ no_levels) }
-{
-    if ok {
-        return levels;
-    }
-    no_levels()
-}
-
-// Whether it is a tree and unused room is zero; with the levels of a tree that is fine, and none of another.
-fn examine_tree(tree: Tree) -> Grown
-    ensures { TreeExamined tree result }
-{
-    if tree_fine(tree) {
-        let levels = tree.levels();
-        return Grown {
-            ok: true,
-            n: tree.n,
-            levels,
-        };
-    }
-    Grown {
-        ok: false,
-        n: 1,
-        levels: no_levels(),
-    }
-}
-
-// A role that is not there: zero.
-fn no_role() -> Role
-    ensures { result ≡ no_role }
-{
-    Role {
-        lens: [0u8; ROLE_PLACES],
-        bytes: [0u8; ROLE_BYTES],
-    }
-}
-
-// A file that is not there: zero.
-fn no_file() -> File
-    ensures { result ≡ no_file }
-{
-    File {
-        lens: [0u8; FILE_PLACES],
-        bytes: [0u8; FILE_BYTES],
-    }
-}
-
-// The examination of the state with these parts. By its parts, since the compiler passes an array of bytes on from where it stands, and a state it copies
-// first. Both walks stand here: in two functions the second array would be copied twice.
-pub fn examine_parts(
-    tree: Tree,
-    nroles: usize,
-    roles: [Role; ROLES],
-    nfiles: usize,
-    files: [File; FILES],
-    slots: [u16; SLOTS],
-    slot: usize,
-    file: usize,
-) -> Examined
-    ensures { Examines (state_of_parts tree nroles roles nfiles files slots) slot file result }
-{
-    let grown = examine_tree(tree);
-    let levels = grown.levels;
-    let mut rok = true;
-    for i in 0..ROLES {
-        rok = rok & role_is(roles[i], i < nroles, grown.n, levels.depth);
-    }
-    let mut fok = true;
-    for j in 0..FILES {
-        fok = fok & file_is(files[j], j < nfiles, grown.n, levels.depth);
-    }
-    let ok = grown.ok & counts_fit(nroles, nfiles) & rok & fok & slots_are(slots, nroles);
-    let mine = role_held(slots, slot);
-    let role = roles[mine];
-    let at = below(file, FILES);
-    let its = files[at];
-    Examined {
-        ok,
-        tree,
-        levels: levels_if(ok, levels),
-        nroles,
-        nfiles,
-        slots,
-        role,
-        at,
-        file: its,
-    }
-}
-
-impl File {
-    // The file with x stored at place k, and y two places on: T1 with T2, or E with G.
-    pub fn put_pair(self, k: usize, x: &[u8], y: &[u8]) -> File
-        requires { (k + 2 < file_places) × (length x.now ≤ longest) × (length y.now ≤ longest) }
-        ensures { result ≡ put_pair self k x.now y.now }
-    {
-        let mut lens = self.lens;
-        let mut bytes = self.bytes;
-        shelf::put(&mut lens, &mut bytes, k, x);
-        shelf::put(&mut lens, &mut bytes, k + 2, y);
-        File { lens, bytes }
-    }
+    let mut stored = *file;
+    stored.put(k, x);
+    stored.put(k + 2, y);
+    stored
 }
 
 impl State {
@@ -397,39 +258,55 @@ impl State {
     pub fn fresh() -> State
         ensures { result ≡ fresh_state }
     {
-        let tree = Tree {
-            n: 1,
-            parent: [0u8; ROOM],
-        };
-        let role = no_role();
-        let file = no_file();
         State {
-            tree,
+            tree: Tree {
+                n: 1,
+                parent: [0; ROOM],
+            },
             nroles: 0,
-            roles: [role; ROLES],
+            roles: [Role::ZERO; ROLES],
             nfiles: 0,
-            files: [file; FILES],
+            files: [File::ZERO; FILES],
             slots: [FREE; SLOTS],
         }
     }
 
-    // Whether the state is well formed; with all that a request needs of it, the role that a slot holds and a file among it.
-    pub fn examine(self, slot: usize, file: usize) -> Examined
-        ensures { Examines self slot file result }
+    // Whether every role and file that is there is fine, each that is not is zero, and the counts and slots fit.
+    fn parts_fine(&self, size: TreeSize) -> bool
+        ensures { (result ≡ true) ↔ PartsFine self.now size.n size.depth.0 }
     {
-        let tree = self.tree;
-        let roles = self.roles;
-        let files = self.files;
-        let slots = self.slots;
-        examine_parts(
-            tree,
-            self.nroles,
-            roles,
-            self.nfiles,
-            files,
-            slots,
-            slot,
-            file,
-        )
+        let counts = (self.nroles <= ROLES) & (self.nfiles <= FILES);
+        let roles = all_are(&self.roles, self.nroles, size);
+        let files = all_are(&self.files, self.nfiles, size);
+        counts & roles & files & slots_are(&self.slots, self.nroles)
+    }
+
+    // The tree with its levels, where the state is well formed.
+    fn grown(&self) -> Option<Grown>
+        ensures { GrownIf (WellFormed self.now) self.now.tree result }
+    {
+        let grown = examine_tree(&self.tree)?;
+        if self.parts_fine(grown.size()) {
+            return Some(grown);
+        }
+        None
+    }
+
+    // Where the state is well formed, its tree with the levels; with all that a request needs of it, the role that a slot holds and a file among it.
+    pub fn examine(&self, slot: usize, file: usize) -> Examined
+        ensures { Examines self.now slot file result }
+    {
+        let mine = role_held(&self.slots, slot);
+        let at = below(file, FILES);
+        Examined {
+            grown: self.grown(),
+            tree: self.tree,
+            nroles: self.nroles,
+            nfiles: self.nfiles,
+            slots: self.slots,
+            role: self.roles[mine],
+            at,
+            file: self.files[at],
+        }
     }
 }

@@ -1,21 +1,13 @@
--- What is written of pairs, numbers and ranges. Assumes nothing.
-use mathlib.Core.Path.{◌≡◌, refl, sym, ap}
-use mathlib.Core.Bool.{Bool, true, false}
+-- What is written of numbers and ranges. Assumes nothing.
+use mathlib.Core.Path.{◌≡◌, refl}
 use mathlib.Core.List.{List, [], ◌∷◌, ◌++◌}
-use Prim.Native.Nat.{ℕ, ◌+◌, ◌/◌, ◌%◌, ◌<◌, ◌≤◌}
+use Prim.Native.Nat.{ℕ, ◌/◌, ◌%◌, ◌<◌, ◌≤◌}
 use native.Mathlib.Omega.{arith}
 use borrow.Author.Tests.{lt-ltb, le-ltb}
 use lib.ListN.{length, length-append}
 use Rattle.writing.specs.Writing.{WrittenAt, RoomFor}
-use Rattle.writing.specs.Laws.{none_written, same-written, room_next}
+use Rattle.writing.specs.Laws.{room_next}
 use Rattle.print.specs.Print.{digit_sign, decimal, open_range, close_range, point, range_text}
-use Rattle.print.specs.Writing.{bracketed}
-
-pub pair-written : {d e : List ℕ} {at x r : ℕ} {pair : Bool} → pair ≡ true → WrittenAt d at (x ∷ []) e r → WrittenAt d at (bracketed pair x) e r
-pair-written {x = x} h f = same-written (ap (λ (b : Bool). bracketed b x) (sym h)) f
-
-pub no-pair-written : {d : List ℕ} {at : ℕ} (x : ℕ) {pair : Bool} → pair ≡ false → WrittenAt d at (bracketed pair x) d at
-no-pair-written {d} {at} x h = same-written (ap (λ (b : Bool). bracketed b x) (sym h)) (none_written d at)
 
 -- ---- numbers
 module _ (n : ℕ) where

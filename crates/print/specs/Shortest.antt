@@ -3,7 +3,7 @@ use Rattle.std.specs.Prelude.{◌≡◌, refl, Bool, true, false, ◌||◌, ◌&
 use Rattle.std.proofs.Common.{sym, ap, ap₂, ◌∙◌, inl, inr, arith, lt-ltb, le-ltb, eqb-true, length-append}
 use Rattle.std.proofs.Math.Path.{subst}
 use mathlib.Core.List.{List, [], ◌∷◌, ◌++◌, append_assoc, append-nil}
-use Rattle.expression.specs.Expression.{Expr, term, one, ◌AND◌, ◌OR◌}
+use Rattle.expression.specs.Expression.{Expr, term, ◌AND◌, ◌OR◌}
 use Rattle.text.specs.Classes.{pick, class_of, value, digit, amp, bar, lpar, rpar, lbra, rbra, dot}
 use Rattle.text.specs.Text.{Number, one-digit, two_digits, Token, number, sign, dots, Written, as_number, as-sign, as-dots, Tokens, end, spaced, next}
 use Rattle.text.specs.Text.{Level, item, ands, ors, Parses, single, between, bracket, an_item, and, an-and, or, Says}

@@ -1,5 +1,9 @@
 -- What the functions that print say to each other. A device of the proofs.
 use Rattle.std.specs.Prelude.{◌≡◌, Bool, true, false, ◌&&◌, List, [], ◌∷◌, ◌++◌, ℕ, ◌≤◌, eqb, length, get_or}
+use Rattle.std.specs.declared.result.Result.{Result}
+use Rattle.std.specs.declared.result.Result.TheVariants.{Ok, Err}
+use Rattle.answer.specs.declared.Answer.{Answer}
+use Rattle.answer.specs.Answers.{Condition, AllHold, FirstFails}
 use Rattle.writing.specs.Writing.{WrittenAt, RoomFor}
 use Rattle.expression.specs.Expression.{Term, Expr, term}
 use Rattle.expression.specs.Bytes.{bytes}
@@ -44,3 +48,8 @@ pub record Ahead (bs : List ℕ) (pair : Bool) (out : List ℕ) (at : ℕ) : Typ
 abbrev pub PrintsFront : List ℕ → Bool → List ℕ → ℕ → List ℕ → Printing → Type 0
 PrintsFront bs pair before at after r =
     (e : Expr) (tail : List ℕ) → bs ≡ bytes e ++ tail → (r.used ≡ length (bytes e)) × WrittenAt before at (paired pair (printed e)) after r.to
+
+-- what is judged before a print: every condition of the list holds; or the answer is that of the first that does not
+abbrev pub Judges : List Condition → Result (Unit {0}) Answer → Type 0
+Judges cs (Ok _) = AllHold cs
+Judges cs (Err a) = FirstFails cs a.number a.place

@@ -1,21 +1,19 @@
 // An expression printed back as text (02, [1]).
+// The output and the place in it go one by one, as `writing::put` takes them: a struct over both would be lent to each call all the same, and each
+// clause would speak of its two fields.
 #![tactic(auto)]
 
-ghost use Rattle.std.specs.Prelude.{◌≡◌, [], ◌∷◌, ◌<◌, length};
-ghost use Rattle.answer.specs.Answers.{Decides, DecidesAt, Leaves};
-ghost use Rattle.tree.specs.Tree.{Ready};
-ghost use Rattle.expression.specs.declared.Kind.TheVariants.{Protection};
-ghost use Rattle.order.specs.Conditions.{in_order};
+ghost use Rattle.std.specs.Prelude.{◌≡◌, length};
+ghost use Rattle.answer.specs.Answers.{Decides, Leaves};
 ghost use Rattle.policy.specs.Seen.{SeenOnce, OfEach};
 ghost use Rattle.print.specs.Print.{decimal as Print·decimal, range_text, print_conditions, print_grants, print_makes};
 ghost use Rattle.writing.specs.Writing.{WrittenAt, RoomFor};
-ghost use Rattle.print.specs.Writing.{bracketed, needs_pair, sign_of, TermAhead, PrintsTerm, Ahead, PrintsFront};
+ghost use Rattle.print.specs.Writing.{bracketed, needs_pair, sign_of, TermAhead, PrintsTerm, Ahead, PrintsFront, Judges};
 
 use answer::Answer;
 use expression::{AND, Kind, ONE, OR};
-use order::Checked;
+use order::Wrong;
 use policy::{Examined, State};
-use tree::{Levels, Tree};
 use writing::put;
 
 // The room that a print needs, however short it is.
@@ -28,7 +26,7 @@ struct Printing {
     to: usize,
 }
 
-// A number in decimal, with no leading zero.
+// A number in decimal, with no leading zero. (By itself: the kit's stands in its crate io, which the C library of the gate does without.)
 fn decimal(out: &mut [u8], at: usize, n: u8) -> usize
     requires { RoomFor out.old at (Print·decimal n) }
     ensures { WrittenAt out.old at (Print·decimal n) out.new result }
@@ -136,60 +134,43 @@ fn print_front(rest: &[u8], pair: bool, out: &mut [u8], at: usize) -> Printing
     }
 }
 
-// 6, as in a request for its first expression, judged as a protection.
-fn order_answer(tree: Tree, levels: Levels, x: &[u8]) -> Answer
-    requires { Ready tree levels }
-    ensures { DecidesAt (in_order Protection tree 0 x.now ∷ []) 0 result }
+// 17, 6 as in a request for its first expression, judged as a protection, 20: whether a print may be made, of the state that was seen so.
+fn judge(seen: &Examined, x: &[u8], room: usize) -> Result<(), Answer>
+    ensures { OfEach seen.now (λ s. Judges (print_conditions s x.now room) result) }
 {
-    let found = order::check(x, Kind::Protection, tree.n, levels.depth);
-    match found {
-        Checked::Fine => Answer::of(answer::DONE),
-        Checked::Wrong(k) => Answer::at(answer::EXPRESSION_WRONG, k),
-    }
-}
-
-// 17, 6, 20, of the state that was seen so.
-fn print_answer(seen: Examined, x: &[u8], room: usize) -> Answer
-    requires { SeenOnce seen }
-    ensures { OfEach seen (λ s. DecidesAt (print_conditions s x.now room) 0 result) }
-{
-    if !seen.ok {
-        return Answer::of(answer::ILL_FORMED);
-    }
-    let tree = seen.tree;
-    let levels = seen.levels;
-    let answer = order_answer(tree, levels, x);
-    if !answer.granted() {
-        return answer;
+    let Some(grown) = &seen.grown else {
+        return Err(Answer::of(answer::ILL_FORMED));
+    };
+    if let Err(Wrong(k)) = order::check(x, Kind::Protection, grown.size()) {
+        return Err(Answer::at(answer::EXPRESSION_WRONG, k));
     }
     if room < ROOM {
-        return Answer::of(answer::BUFFER_SHORT);
+        return Err(Answer::of(answer::BUFFER_SHORT));
     }
-    Answer::of(answer::DONE)
+    Ok(())
 }
 
 // A print on the state that was seen so.
-pub fn print_seen(seen: Examined, x: &[u8], out: &mut [u8]) -> Answer
-    requires { SeenOnce seen }
-    ensures of_each { OfEach seen (λ s. Decides (print_conditions s x.now (length out.old)) (print_grants x.now) result) }
+pub fn print_seen(seen: &Examined, x: &[u8], out: &mut [u8]) -> Answer
+    requires { SeenOnce seen.now }
+    ensures of_each { OfEach seen.now (λ s. Decides (print_conditions s x.now (length out.old)) (print_grants x.now) result) }
     ensures leaves { Leaves result (print_makes x.now out.old) out.old out.new }
 {
-    let answer = print_answer(seen, x, out.len());
-    if !answer.granted() {
-        return answer;
+    if let Err(refusal) = judge(seen, x, out.len()) {
+        return refusal;
     }
-    if x.len() == 0 {
-        return answer;
+    if x.is_empty() {
+        return Answer::of(answer::DONE);
     }
     let printed = print_front(x, false, out, 0);
     Answer::at(answer::DONE, printed.to)
 }
 
 // The print of an expression at the front of out, and its length; or what is wrong with it.
-pub fn print(s: State, x: &[u8], out: &mut [u8]) -> Answer
-    ensures decides { Decides (print_conditions s x.now (length out.old)) (print_grants x.now) result }
+pub fn print(s: &State, x: &[u8], out: &mut [u8]) -> Answer
+    ensures decides { Decides (print_conditions s.now x.now (length out.old)) (print_grants x.now) result }
     ensures leaves { Leaves result (print_makes x.now out.old) out.old out.new }
 {
     let seen = s.examine(0, 0);
-    print_seen(seen, x, out)
+    print_seen(&seen, x, out)
 }

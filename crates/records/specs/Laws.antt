@@ -1,10 +1,12 @@
 -- One reading; a record stays one whatever follows; how long one can be. Assumes nothing.
-use Rattle.std.specs.Prelude.{◌≡◌, refl, cond, ℕ, suc, ◌+◌, ◌<◌, ◌≤◌, length, get_or, take, drop, eqb}
-use Rattle.std.proofs.Common.{sym, ap, ap₂, ◌∙◌, subst, inl, inr, arith, length-append, length-drop, take-append-drop, take_at, drop_at, length-take-le}
+use Rattle.std.specs.Prelude.{◌≡◌, refl, Option, Some, None, cond, ℕ, suc, ◌+◌, ◌<◌, ◌≤◌, length, get_or, take, drop, eqb}
+use Rattle.std.proofs.Common.{sym, ap, ap₂, ◌∙◌, subst, arith, length-append, length-drop, take-append-drop, take_at, drop_at, length-take-le}
 use Rattle.std.proofs.Common.{get_or-drop}
 use mathlib.Core.List.{List, [], ◌∷◌, ◌++◌, map, append_assoc, head-eq_of_cons-eq, tail-eq_of_cons-eq}
-use Rattle.records.specs.declared.Parted.{Parted}
-use Rattle.records.specs.Records.{Shape, Byte, Short, Long, Quad, Listed, code-01, code-02, code-03, code-04, code-05, code-06, code-10}
+use Rattle.records.specs.declared.Record.{Record}
+use Rattle.records.specs.declared.Shape.{Shape}
+use Rattle.records.specs.declared.Shape.TheVariants.{Byte, Short, Long, Quad}
+use Rattle.records.specs.Records.{Listed, code-01, code-02, code-03, code-04, code-05, code-06, code-10}
 use Rattle.records.specs.Records.{longest_in_table, lead, size, Field, Fields, none, next, Recorded, spans, filled_up, Stands, PartedIs}
 
 -- numbers of a list that are bytes; the sum of a list
@@ -220,19 +222,18 @@ record-decided (b ∷ l) more {rest} {code} {fs} h enough w =
     (v.0, record { shapes = w.shapes; listed = w.listed; body = l; is = code_is; fields = v.1 })
 
 -- reading the front of any bytes tells one thing
-stands_one : {bs : List ℕ} {r q : Parted} → Stands bs r → Stands bs q → r ≡ q
+stands_one : {bs : List ℕ} {r q : Record} → Stands bs r → Stands bs q → r ≡ q
 stands_one {r = r} {q = q} w v =
     let o = one-record w.recorded v.recorded in
     let code = o.0 in
     let listed = subst (λ (c : ℕ). Listed c v.recorded.shapes) (sym code) v.recorded.listed in
     let shapes = one_line w.recorded.listed listed in
     let fields = w.placed ∙ ap filled_up (ap₂ (spans 1) shapes o.1) ∙ sym v.placed in
-    let whole = w.whole ∙ sym v.whole in
     let end : r.end ≡ q.end = omega (arith, w.ends, v.ends, ap length o.2) in
-    λ j. record { whole = whole j; code = code j; fields = fields j; end = end j }
+    λ j. record { code = code j; fields = fields j; end = end j }
 
-pub one-parted : {bs : List ℕ} {r q : Parted} → PartedIs bs r → PartedIs bs q → r ≡ q
-one-parted (inl w) (inl v) = stands_one w v
-one-parted (inl w) (inr (n, e)) = absurd (n _ _ _ w.recorded)
-one-parted (inr (n, e)) (inl v) = absurd (n _ _ _ v.recorded)
-one-parted (inr (n, e)) (inr (m, i)) = e ∙ sym i
+pub one-parted : (bs : List ℕ) (r q : Option Record) → PartedIs bs r → PartedIs bs q → r ≡ q
+one-parted bs (Some r) (Some q) w v = ap Some (stands_one w v)
+one-parted bs (Some r) None w n = absurd (n _ _ _ w.recorded)
+one-parted bs None (Some q) n v = absurd (n _ _ _ v.recorded)
+one-parted bs None None n m = refl

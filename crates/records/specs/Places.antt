@@ -1,16 +1,17 @@
 -- What stands at the places of a record's fields are the fields. Assumes nothing.
-use Rattle.std.specs.Prelude.{◌≡◌, refl, true, false, ℕ, zero, suc, ◌+◌, ◌-◌, ◌<◌, ◌≤◌, length, get_or, take, drop, set, replicate}
-use Rattle.std.proofs.Common.{sym, ap, ap₂, ◌∙◌, subst, true≢false, inl, inr, arith, add-one, length-append, length-drop, drop_of_length-le, drop-drop}
-use Rattle.std.proofs.Common.{drop-cons, get_or-drop, get_or-take, length-take-le}
+use Rattle.std.specs.Prelude.{◌≡◌, refl, Option, Some, None, ℕ, zero, suc, ◌+◌, ◌-◌, ◌<◌, ◌≤◌, length, get_or, take, drop, set, replicate}
+use Rattle.std.proofs.Common.{sym, ap, ap₂, ◌∙◌, subst, arith, add-one, length-append, length-drop, drop_of_length-le, drop-drop}
+use Rattle.std.proofs.Common.{drop-cons, get_or-drop}
 use mathlib.Core.List.{List, [], ◌∷◌, ◌++◌, append-nil, append_assoc, head-eq_of_cons-eq, tail-eq_of_cons-eq}
-use Rattle.std.proofs.lemmas.List.{length-map, set_at}
-use Rattle.std.proofs.Math.ListN.{get_or-map}
+use Rattle.std.proofs.lemmas.List.{set_at}
 use Rattle.fields.specs.Fronts.{nil-of, cons-nil}
 use Rattle.records.specs.declared.Span.{Span}
-use Rattle.records.specs.declared.Parted.{Parted}
-use Rattle.records.specs.Records.{Shape, Byte, Short, Long, Quad, Listed, code-01, code-02, code-03, code-04, code-05, code-06, code-10, most_fields}
-use Rattle.records.specs.Records.{lead, size, Field, Fields, none, next, spans, no_span, filled_up, Stands, Unrecorded, nothing, PartedIs, AloneIs}
-use Rattle.records.specs.Walk.{shape_of, shapes_in, spanned, ShapesAre, FieldThere, WalkThere, WalkIs}
+use Rattle.records.specs.declared.Record.{Record}
+use Rattle.records.specs.declared.Shape.{Shape}
+use Rattle.records.specs.declared.Shape.TheVariants.{Byte, Short, Long, Quad}
+use Rattle.records.specs.Records.{Listed, code-01, code-02, code-03, code-04, code-05, code-06, code-10, most_fields}
+use Rattle.records.specs.Records.{lead, size, Field, Fields, none, next, spans, no_span, filled_up, Stands, Unrecorded, PartedIs, AloneIs}
+use Rattle.records.specs.Walk.{spanned, FieldThere, WalkThere, WalkIs}
 use Rattle.records.specs.Laws.{size_in, field_here, rest_here, field-size, field_in, rest_in, field-length, field-there, one_field, one_line, one-record}
 
 -- the bytes of its number say how long a field is
@@ -57,11 +58,8 @@ module _ (s : Shape) (bs : List ℕ) (at : ℕ) (h : at ≤ length bs) where
         ends = k;
       }
 
--- the lines of the table in numbers
-pub a-line : (code n : ℕ) (of : List ℕ) → Listed code (shapes_in n of) → n ≤ most_fields → ShapesAre code (record { known = true; n = n; of = of })
-a-line code n of w h = record { known = λ e. (w, h); unknown = λ e. absurd (true≢false e) }
-
-unlisted : (code : ℕ) → (code ≡ 1 → ⊥) → (code ≡ 2 → ⊥) → (code ≡ 3 → ⊥) → (code ≡ 4 → ⊥) → (code ≡ 5 → ⊥) → (code ≡ 6 → ⊥) → (code ≡ 16 → ⊥)
+-- a code without a line of the table
+pub unlisted : (code : ℕ) → (code ≡ 1 → ⊥) → (code ≡ 2 → ⊥) → (code ≡ 3 → ⊥) → (code ≡ 4 → ⊥) → (code ≡ 5 → ⊥) → (code ≡ 6 → ⊥) → (code ≡ 16 → ⊥)
     → (ss : List Shape) → Listed code ss → ⊥
 unlisted code n1 n2 n3 n4 n5 n6 n16 ss code-01 = n1 refl
 unlisted code n1 n2 n3 n4 n5 n6 n16 ss code-02 = n2 refl
@@ -70,10 +68,6 @@ unlisted code n1 n2 n3 n4 n5 n6 n16 ss code-04 = n4 refl
 unlisted code n1 n2 n3 n4 n5 n6 n16 ss code-05 = n5 refl
 unlisted code n1 n2 n3 n4 n5 n6 n16 ss code-06 = n6 refl
 unlisted code n1 n2 n3 n4 n5 n6 n16 ss code-10 = n16 refl
-
-pub no_line : (code n : ℕ) (of : List ℕ) → (code ≡ 1 → ⊥) → (code ≡ 2 → ⊥) → (code ≡ 3 → ⊥) → (code ≡ 4 → ⊥) → (code ≡ 5 → ⊥) → (code ≡ 6 → ⊥)
-    → (code ≡ 16 → ⊥) → ShapesAre code (record { known = false; n = n; of = of })
-no_line code n of n1 n2 n3 n4 n5 n6 n16 = record { known = λ e. absurd (true≢false (sym e)); unknown = λ e. unlisted code n1 n2 n3 n4 n5 n6 n16 }
 
 -- what the first fields were, and where they stand, while the fields are gone through
 pub record Walked (bs : List ℕ) (ss : List Shape) (i at : ℕ) (fields : List Span) : Type 0 where
@@ -147,12 +141,11 @@ module _ (bs : List ℕ) (ss : List Shape) (i at : ℕ) (fields : List Span) (w 
 
 -- the last was gone through
 pub walk_ends : (bs : List ℕ) (code : ℕ) (ss : List Shape) (i at : ℕ) (fields : List Span) → Walked bs ss i at fields → length ss ≤ i
-    → WalkThere bs code ss (record { whole = true; code = code; fields = fields; end = at })
+    → WalkThere bs code ss (record { code = code; fields = fields; end = at })
 walk_ends bs code ss i at fields w h =
     let e : drop i ss ≡ [] = drop_of_length-le ss h in
     let put : spans 1 ss (w.done ++ []) ≡ w.put = w.stand [] ∙ ap (λ (tt : List Shape). w.put ++ spans at tt []) e ∙ append-nil w.put in
     record {
-      whole = refl;
       code_is = refl;
       fields = w.done ++ [];
       stand = w.on [] (drop at bs) (subst (λ (tt : List Shape). Fields tt (drop at bs) [] (drop at bs)) (sym e) none);
@@ -160,22 +153,13 @@ walk_ends bs code ss i at fields w h =
       ends = w.within-bytes;
     }
 
--- the shapes in numbers, one by one
-module _ (n : ℕ) (of : List ℕ) (h : n ≤ length of) where
-  pub shapes-count : length (shapes_in n of) ≡ n
-  shapes-count = length-map (take n of) shape_of ∙ length-take-le n of h
-
-  pub shape-next : (i : ℕ) → i < n → drop i (shapes_in n of) ≡ shape_of (get_or of i 0) ∷ drop (i + 1) (shapes_in n of)
-  shape-next i k =
-      let at = get_or-map shape_of (take n of) i 0 ∙ ap shape_of (get_or-take n of i 0 k) in
-      drop-cons (shapes_in n of) i (shape_of 0) (omega (arith, shapes-count))
-      ∙ ap (λ (s : Shape). s ∷ drop (suc i) (shapes_in n of)) at
-      ∙ ap (λ (j : ℕ). shape_of (get_or of i 0) ∷ drop j (shapes_in n of)) (sym (add-one i))
+-- the shapes, one by one
+pub shape-next : (ss : List Shape) (i : ℕ) → i < length ss → drop i ss ≡ get_or ss i Byte ∷ drop (i + 1) ss
+shape-next ss i h = drop-cons ss i Byte h ∙ ap (λ (j : ℕ). get_or ss i Byte ∷ drop j ss) (sym (add-one i))
 
 -- the fields behind the code are a record
-pub walk-stands : (b : ℕ) (l : List ℕ) (code : ℕ) (ss : List Shape) (r : Parted) → code ≡ b → Listed code ss → WalkThere (b ∷ l) code ss r → Stands (b ∷ l) r
+pub walk-stands : (b : ℕ) (l : List ℕ) (code : ℕ) (ss : List Shape) (r : Record) → code ≡ b → Listed code ss → WalkThere (b ∷ l) code ss r → Stands (b ∷ l) r
 walk-stands b l code ss r e w v = record {
-  whole = v.whole;
   fields = v.fields;
   rest = drop r.end (b ∷ l);
   recorded = record {
@@ -204,18 +188,19 @@ pub empty-none : Unrecorded []
 empty-none c fs rest v = cons-nil (sym v.is)
 
 -- what reading the front tells, by the front
-pub front-empty : (bs : List ℕ) (r : Parted) → length bs ≡ 0 → r ≡ nothing → PartedIs bs r
-front-empty [] r h e = inr (empty-none, e)
-front-empty (b ∷ l) r h e = absurd (omega arith)
+pub front-empty : (bs : List ℕ) → length bs ≡ 0 → Unrecorded bs
+front-empty [] h = empty-none
+front-empty (b ∷ l) h = absurd (omega arith)
 
-pub front-unknown : (bs : List ℕ) (r : Parted) → ((ss : List Shape) → Listed (get_or bs 0 0) ss → ⊥) → r ≡ nothing → PartedIs bs r
-front-unknown [] r n e = inr (empty-none, e)
-front-unknown (b ∷ l) r n e = inr (code-none b l b refl n, e)
+pub front-unknown : (bs : List ℕ) → ((ss : List Shape) → Listed (get_or bs 0 0) ss → ⊥) → Unrecorded bs
+front-unknown [] n = empty-none
+front-unknown (b ∷ l) n = code-none b l b refl n
 
-pub front-walked : (bs : List ℕ) (ss : List Shape) (r : Parted) → 0 < length bs → Listed (get_or bs 0 0) ss → WalkIs bs (get_or bs 0 0) ss r → PartedIs bs r
-front-walked [] ss r h w v = absurd (omega arith)
-front-walked (b ∷ l) ss r h w (inl v) = inl (walk-stands b l b ss r refl w v)
-front-walked (b ∷ l) ss r h w (inr (n, e)) = inr (walk_none b l b ss refl w n, e)
+pub front-walked : (bs : List ℕ) (code : ℕ) (ss : List Shape) (r : Option Record) → 0 < length bs → code ≡ get_or bs 0 0 → Listed code ss
+    → WalkIs bs code ss r → PartedIs bs r
+front-walked [] code ss r h e w v = absurd (omega arith)
+front-walked (b ∷ l) code ss (Some r) h e w v = walk-stands b l code ss r e w v
+front-walked (b ∷ l) code ss None h e w n = walk_none b l code ss e w n
 
 -- what stands where: the fields of a record, one by one, wherever they stand
 pub record FieldsPlaced (bs : List ℕ) (fs : List (List ℕ)) (ps : List Span) : Type 0 where
@@ -266,7 +251,7 @@ filled_at (x ∷ l) k zero = refl
 filled_at (x ∷ l) k (suc i) = filled_at l k i
 
 -- the fields of a record that stands at the front, by the places that reading it tells
-pub stands-in-place : (bs : List ℕ) (r : Parted) (w : Stands bs r) → FieldsPlaced bs w.fields r.fields
+pub stands-in-place : (bs : List ℕ) (r : Record) (w : Stands bs r) → FieldsPlaced bs w.fields r.fields
 stands-in-place bs r w =
     let v = w.recorded in
     let some : 1 ≤ length bs = omega (arith, ap length v.is) in
@@ -281,13 +266,11 @@ stands-in-place bs r w =
     }
 
 -- nothing follows
-pub stands-alone : (bs : List ℕ) (r : Parted) (w : Stands bs r) → r.end ≡ length bs → w.rest ≡ []
+pub stands-alone : (bs : List ℕ) (r : Record) (w : Stands bs r) → r.end ≡ length bs → w.rest ≡ []
 stands-alone bs r w e = nil-of w.rest (omega (arith, w.ends))
 
-pub alone-not : (bs : List ℕ) (r q : Parted) → PartedIs bs r → r.end < length bs → q ≡ nothing → AloneIs bs q
-alone-not bs r q (inl w) h e = inr ((λ code fs v. omega (arith, w.ends, ap length (one-record w.recorded v).2)), e)
-alone-not bs r q (inr (n, i)) h e = inr ((λ code fs v. n code fs [] v), e)
+pub alone-not : (bs : List ℕ) (r : Record) → Stands bs r → r.end < length bs → AloneIs bs None
+alone-not bs r w h code fs v = omega (arith, w.ends, ap length (one-record w.recorded v).2)
 
-pub alone-all : (bs : List ℕ) (r : Parted) → PartedIs bs r → length bs ≤ r.end → AloneIs bs r
-alone-all bs r (inl w) h = inl (w, omega (arith, w.ends))
-alone-all bs r (inr (n, i)) h = inr ((λ code fs v. n code fs [] v), i)
+pub alone-all : (bs : List ℕ) (r : Record) → Stands bs r → length bs ≤ r.end → AloneIs bs (Some r)
+alone-all bs r w h = (w, omega (arith, w.ends))

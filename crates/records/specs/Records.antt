@@ -1,15 +1,10 @@
 -- The records of a box: a code, and then fields by the shapes of its code. Definitions only.
-use Rattle.std.specs.Prelude.{◌≡◌, true, false, List, [], ◌∷◌, ◌++◌, ◌⊎◌, ℕ, ◌+◌, ◌-◌, length, get_or, replicate}
+use Rattle.std.specs.Prelude.{◌≡◌, List, [], ◌∷◌, ◌++◌, ℕ, ◌+◌, ◌-◌, length, get_or, replicate, Option, Some, None}
 use Rattle.fields.specs.Parts.{first_two}
 use Rattle.records.specs.declared.Span.{Span}
-use Rattle.records.specs.declared.Parted.{Parted}
-
--- the shape of a field: a byte; bytes after their number in one byte; bytes after their number in two, low byte first; a number in four, low byte first
-pub data Shape : Type 0 where
-  Byte : Shape
-  Short : Shape
-  Long : Shape
-  Quad : Shape
+use Rattle.records.specs.declared.Record.{Record}
+use Rattle.records.specs.declared.Shape.{Shape}
+use Rattle.records.specs.declared.Shape.TheVariants.{Byte, Short, Long, Quad}
 
 -- the table: the shapes of the fields of a record, by its code (in the names two hex digits). No other code has a record
 pub data Listed : ℕ → List Shape → Type 0 where
@@ -76,9 +71,8 @@ no_span = record { from = 0; to = 0 }
 abbrev pub filled_up : List Span → List Span
 filled_up l = l ++ replicate (most_fields - length l) no_span
 
--- a record of the table stands at the front of these bytes: its code, its fields and where each stands, and where it ends
-pub record Stands (bs : List ℕ) (r : Parted) : Type 0 where
-  pub whole : r.whole ≡ true
+-- this record of the table stands at the front of these bytes: its code, its fields and where each stands, and where it ends
+pub record Stands (bs : List ℕ) (r : Record) : Type 0 where
   pub fields : List (List ℕ)
   pub rest : List ℕ
   pub recorded : Recorded bs r.code fields rest
@@ -89,13 +83,12 @@ pub record Stands (bs : List ℕ) (r : Parted) : Type 0 where
 abbrev pub Unrecorded : List ℕ → Type 0
 Unrecorded bs = (code : ℕ) (fs : List (List ℕ)) (rest : List ℕ) → Recorded bs code fs rest → ⊥
 
-abbrev pub nothing : Parted
-nothing = record { whole = false; code = 0; fields = replicate most_fields no_span; end = 0 }
-
 -- what reading the front of these bytes tells
-abbrev pub PartedIs : List ℕ → Parted → Type 0
-PartedIs bs r = Stands bs r ⊎ (Unrecorded bs × (r ≡ nothing))
+abbrev pub PartedIs : List ℕ → Option Record → Type 0
+PartedIs bs (Some r) = Stands bs r
+PartedIs bs None = Unrecorded bs
 
 -- what reading these bytes tells, where nothing is to follow the record
-abbrev pub AloneIs : List ℕ → Parted → Type 0
-AloneIs bs r = (Stands bs r × (r.end ≡ length bs)) ⊎ (((code : ℕ) (fs : List (List ℕ)) → Recorded bs code fs [] → ⊥) × (r ≡ nothing))
+abbrev pub AloneIs : List ℕ → Option Record → Type 0
+AloneIs bs (Some r) = Stands bs r × (r.end ≡ length bs)
+AloneIs bs None = (code : ℕ) (fs : List (List ℕ)) → Recorded bs code fs [] → ⊥

@@ -2,7 +2,7 @@
 use Rattle.std.specs.Prelude.{◌≡◌, ◌↔◌, ℕ, ◌<◌}
 use Rattle.std.proofs.Common.{⊎_elim, arith}
 use Rattle.securon.specs.Sets.{Set, ◌⊆◌}
-use Rattle.policy.specs.State.{read, write, execute}
+use Rattle.policy.specs.State.{write, execute}
 use Rattle.rules.specs.Rules.{TakesContentOut, MediatesRow}
 
 -- a write takes nothing out, and a mode over Execute neither

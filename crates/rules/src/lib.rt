@@ -1,109 +1,51 @@
 // The rules: whether a role passes a row, whether its mediating sets fit, and whether its bypass
 // set has what a store needs (01, "Rows, roles and the test", "Requests"; 02, [2]).
+// The tree, a role and a file are lent one by one: a struct over the three would be made at each call and read by one function.
 #![tactic(auto)]
 
 ghost use Rattle.std.specs.Prelude.{◌≡◌, true, ◌↔◌, ◌<◌};
 ghost use Rattle.securon.specs.Sets.{◌≐◌, ◌⊆◌, marked};
-ghost use Rattle.expression.specs.Bytes.{SET, MeetsT1, MeetsT2};
-ghost use Rattle.tree.specs.Tree.{Ready};
-ghost use Rattle.expression.specs.declared.Kind.TheVariants.{Privilege, Protection};
-ghost use Rattle.shelf.specs.Shelf.{PartInOrder};
-ghost use Rattle.policy.specs.State.{IsMode, role_places, file_places, role_part, file_part};
+ghost use Rattle.expression.specs.Bytes.{SET};
+ghost use Rattle.expression.specs.declared.Kind.TheVariants.{Privilege};
+ghost use Rattle.shelf.specs.Shelf.{stored_at, PartInOrder};
+ghost use Rattle.policy.specs.State.{IsMode};
 ghost use Rattle.rules.specs.Rules.{TakesContentOut, MediatesRow, EntersOrLeaves, RolePasses, RoleMediates, RoleCovers};
-ghost use Rattle.rules.specs.AtHand.{AtHand, PlusPasses, MinusPasses, ToStore};
+ghost use Rattle.rules.specs.AtHand.{AtHand, ToStore};
 
-use policy::{File, Role};
+use policy::{File, Part, Role, Row, Sense};
 use securon::SecuronSet;
-use tree::{Levels, Tree};
+use tree::Grown;
 
-// SET of the privilege at place k of a role.
-fn role_set(tree: Tree, levels: Levels, r: Role, k: usize) -> SecuronSet
-    requires { Ready tree levels × (k < role_places) × PartInOrder Privilege tree.n levels.depth.0 r.lens r.bytes k }
-    ensures { marked result.has ≐ SET tree (role_part r k) }
+// SET of the privilege at place k of a role or of a file.
+fn set_at<R: Row>(grown: &Grown, row: &R, k: usize) -> SecuronSet
+    requires place { k < R.shelves.places }
+    requires in_order { PartInOrder Privilege grown.now.tree.n grown.now.levels.depth.0 (R.shelves.lens_of row.now) (R.shelves.bytes_of row.now) k }
+    ensures { marked result.has ≐ SET grown.now.tree (stored_at (R.shelves.lens_of row.now) (R.shelves.bytes_of row.now) k) }
 {
-    let b = shelf::stored(&r.lens, &r.bytes, k);
-    expression::set_of(tree, levels, b)
+    expression::set_of(grown, row.stored(k))
 }
 
-// SET of the indelible part at place k of a file.
-fn file_set(tree: Tree, levels: Levels, f: File, k: usize) -> SecuronSet
-    requires { Ready tree levels × (k < file_places) × PartInOrder Privilege tree.n levels.depth.0 f.lens f.bytes k }
-    ensures { marked result.has ≐ SET tree (file_part f k) }
+// Whether a role passes a file's row of that mode: V+ meets T1; SET(E) is within V+; V- does not meet T2; V- and SET(G) share no securon.
+pub fn passes(grown: &Grown, role: &Role, file: &File, mode: usize) -> bool
+    requires { AtHand grown.now role.now file.now × IsMode mode }
+    ensures { (result ≡ true) ↔ RolePasses grown.now.tree role.now file.now mode }
 {
-    let b = shelf::stored(&f.lens, &f.bytes, k);
-    expression::set_of(tree, levels, b)
-}
-
-// Whether a held set meets the T1 at place k of a file.
-fn meets_t1(tree: Tree, levels: Levels, held: SecuronSet, f: File, k: usize) -> bool
-    requires { Ready tree levels × (k < file_places) × PartInOrder Protection tree.n levels.depth.0 f.lens f.bytes k }
-    ensures { (result ≡ true) ↔ MeetsT1 tree (marked held.has) (file_part f k) }
-{
-    let b = shelf::stored(&f.lens, &f.bytes, k);
-    expression::meets_t1(tree, levels, held, b)
-}
-
-// Whether a held set meets the T2 at place k of a file.
-fn meets_t2(tree: Tree, levels: Levels, held: SecuronSet, f: File, k: usize) -> bool
-    requires { Ready tree levels × (k < file_places) × PartInOrder Protection tree.n levels.depth.0 f.lens f.bytes k }
-    ensures { (result ≡ true) ↔ MeetsT2 tree (marked held.has) (file_part f k) }
-{
-    let b = shelf::stored(&f.lens, &f.bytes, k);
-    expression::meets_t2(tree, levels, held, b)
-}
-
-// The row test in the positive sense: V+ meets T1, and SET(E) is within V+.
-fn plus_passes(tree: Tree, levels: Levels, role: Role, file: File, mode: usize) -> bool
-    requires { AtHand tree levels role file × IsMode mode }
-    ensures { (result ≡ true) ↔ PlusPasses tree role file mode }
-{
-    let plus = role_set(tree, levels, role, policy::role_place(mode, policy::V_PLUS));
-    if !meets_t1(
-        tree,
-        levels,
-        plus,
-        file,
-        policy::file_place(mode, policy::T1),
-    ) {
+    let plus = set_at(grown, role, policy::role_place(mode, Sense::Plus));
+    let t1 = file.stored(policy::file_place(mode, Part::T1));
+    if !expression::meets_t1(grown, plus, t1) {
         return false;
     }
-    let e = file_set(tree, levels, file, policy::file_place(mode, policy::E));
-    e.part(plus)
-}
-
-// The row test in the negative sense: V- does not meet T2, and V- and SET(G) share no securon.
-fn minus_passes(tree: Tree, levels: Levels, role: Role, file: File, mode: usize) -> bool
-    requires { AtHand tree levels role file × IsMode mode }
-    ensures { (result ≡ true) ↔ MinusPasses tree role file mode }
-{
-    let minus = role_set(
-        tree,
-        levels,
-        role,
-        policy::role_place(mode, policy::V_MINUS),
-    );
-    if meets_t2(
-        tree,
-        levels,
-        minus,
-        file,
-        policy::file_place(mode, policy::T2),
-    ) {
+    let e = set_at(grown, file, policy::file_place(mode, Part::E));
+    if !e.part(plus) {
         return false;
     }
-    let g = file_set(tree, levels, file, policy::file_place(mode, policy::G));
+    let minus = set_at(grown, role, policy::role_place(mode, Sense::Minus));
+    let t2 = file.stored(policy::file_place(mode, Part::T2));
+    if expression::meets_t2(grown, minus, t2) {
+        return false;
+    }
+    let g = set_at(grown, file, policy::file_place(mode, Part::G));
     minus.apart(g)
-}
-
-// Whether a role passes a file's row of that mode, in both senses.
-pub fn passes(tree: Tree, levels: Levels, role: Role, file: File, mode: usize) -> bool
-    requires { AtHand tree levels role file × IsMode mode }
-    ensures { (result ≡ true) ↔ RolePasses tree role file mode }
-{
-    if !plus_passes(tree, levels, role, file, mode) {
-        return false;
-    }
-    minus_passes(tree, levels, role, file, mode)
 }
 
 // Whether a mode takes content out of a file: Read or Execute.
@@ -127,27 +69,17 @@ fn sets_fit(mode: usize, m1: SecuronSet, m2: SecuronSet, e: SecuronSet, g: Secur
 }
 
 // Whether the role's mediating sets fit. The indelible parts are those of the Read row, whatever the mode; Detect and Change Protection need none.
-pub fn mediates(tree: Tree, levels: Levels, role: Role, file: File, mode: usize) -> bool
-    requires { AtHand tree levels role file }
-    ensures { (result ≡ true) ↔ RoleMediates tree role file mode }
+pub fn mediates(grown: &Grown, role: &Role, file: &File, mode: usize) -> bool
+    requires { AtHand grown.now role.now file.now }
+    ensures { (result ≡ true) ↔ RoleMediates grown.now.tree role.now file.now mode }
 {
     if policy::EXECUTE < mode {
         return true;
     }
-    let m1 = role_set(tree, levels, role, policy::M1_PLACE);
-    let m2 = role_set(tree, levels, role, policy::M2_PLACE);
-    let e = file_set(
-        tree,
-        levels,
-        file,
-        policy::file_place(policy::READ, policy::E),
-    );
-    let g = file_set(
-        tree,
-        levels,
-        file,
-        policy::file_place(policy::READ, policy::G),
-    );
+    let m1 = set_at(grown, role, policy::M1_PLACE);
+    let m2 = set_at(grown, role, policy::M2_PLACE);
+    let e = set_at(grown, file, policy::file_place(policy::READ, Part::E));
+    let g = set_at(grown, file, policy::file_place(policy::READ, Part::G));
     sets_fit(mode, m1, m2, e, g)
 }
 
@@ -161,25 +93,17 @@ fn alters_within(old: SecuronSet, new: SecuronSet, b: SecuronSet) -> bool
 }
 
 // Whether the role's bypass set has every securon that enters or leaves SET(E) or SET(G) of a file's row of that mode.
-pub fn covers(
-    tree: Tree,
-    levels: Levels,
-    role: Role,
-    file: File,
-    mode: usize,
-    e: &[u8],
-    g: &[u8],
-) -> bool
-    requires { ToStore tree levels role file mode e.now g.now }
-    ensures { (result ≡ true) ↔ RoleCovers tree role file mode e.now g.now }
+pub fn covers(grown: &Grown, role: &Role, file: &File, mode: usize, e: &[u8], g: &[u8]) -> bool
+    requires { ToStore grown.now role.now file.now mode e.now g.now }
+    ensures { (result ≡ true) ↔ RoleCovers grown.now.tree role.now file.now mode e.now g.now }
 {
-    let b = role_set(tree, levels, role, policy::B_PLACE);
-    let old_e = file_set(tree, levels, file, policy::file_place(mode, policy::E));
-    let new_e = expression::set_of(tree, levels, e);
+    let b = set_at(grown, role, policy::B_PLACE);
+    let old_e = set_at(grown, file, policy::file_place(mode, Part::E));
+    let new_e = expression::set_of(grown, e);
     if !alters_within(old_e, new_e, b) {
         return false;
     }
-    let old_g = file_set(tree, levels, file, policy::file_place(mode, policy::G));
-    let new_g = expression::set_of(tree, levels, g);
+    let old_g = set_at(grown, file, policy::file_place(mode, Part::G));
+    let new_g = expression::set_of(grown, g);
     alters_within(old_g, new_g, b)
 }

@@ -1,18 +1,17 @@
 -- An output that is filled byte after byte holds what was written, as far as it fits. Assumes nothing.
-use Rattle.std.specs.Prelude.{◌≡◌, refl, List, [], ◌∷◌, ◌++◌, ℕ, suc, ◌+◌, ◌-◌, ◌<◌, ◌≤◌, length, get_or, take, drop, set}
-use Rattle.std.proofs.Common.{sym, ap, ◌∙◌, subst, append-nil, append_assoc, add-one, arith}
-use Rattle.std.proofs.Common.{length-append, length-take, length-drop, drop_of_length-le, take_all, take-suc, drop-cons, take_at}
+use Rattle.std.specs.Prelude.{◌≡◌, refl, List, [], ◌++◌, ℕ, ◌+◌, ◌-◌, ◌<◌, ◌≤◌, length, take, drop}
+use Rattle.std.proofs.Common.{sym, ap, ap₂, ◌∙◌, subst, append-nil, append_assoc, arith}
+use Rattle.std.proofs.Common.{length-append, length-take, length-drop, drop_of_length-le, drop-drop, take_all, take_at}
 use Rattle.std.proofs.Math.Decide.{dec_le}
-use Rattle.std.proofs.lemmas.List.{set_at, take-append-le}
+use Rattle.std.proofs.Math.Seq.{take-append_seam, take-append-add, drop-append-add}
+use Rattle.std.proofs.lemmas.List.{take-append-le}
 use Rattle.answer.specs.declared.Answer.{Answer}
 use Rattle.lines.specs.Lines.{Fills}
-use Rattle.script.specs.declared.Next.{Next}
-use Rattle.script.specs.declared.Told.{Told}
 use Rattle.script.specs.Script.{over, Filled}
 use Rattle.script.specs.Windows.{line_room}
-use Rattle.script.specs.Inner.{Puts, PutsLine, ToldIs}
+use Rattle.script.specs.Inner.{Puts, PutsLine}
 
--- ---- one byte
+-- ---- some bytes
 length_over : (w before : List ℕ) → length (over w before) ≡ length before
 length_over w before = simp (length-append, length-take, length-drop) (omega arith)
 
@@ -23,58 +22,84 @@ over-fits w before h = ap (λ (l : List ℕ). l ++ drop (length w) before) (take
 over-full : (w before : List ℕ) → length before ≤ length w → over w before ≡ take (length before) w
 over-full w before h = ap (λ (l : List ℕ). take (length before) w ++ l) (drop_of_length-le before h) ∙ append-nil (take (length before) w)
 
-module _ (held first before : List ℕ) (n : ℕ) (f : Filled held first before n) (x : ℕ) where
-  long : length before ≡ length first
-  long = ap length f.is ∙ length_over held first
+-- where there is no room left, nothing is written, and the count stays
+pub puts-past : (w before : List ℕ) (n : ℕ) → length before < n → Puts w before n before n
+puts-past w before n h first held f =
+    let long = ap length f.is ∙ length_over held first in
+    go long (dec_le (length held) (length first))
+  where
+    go : length before ≡ length first → Dec (length held ≤ length first) → Filled (held ++ w) first before n
+    go long (yes a) = absurd (omega (arith, f.fits a))
+    go long (no a) =
+        let m : n ≡ length first + 1 = f.full (omega arith) in
+        let o = length-append held w in
+        let same = take-append-le (length first) held w (omega arith) in
+        record {
+          is = f.is ∙ over-full held first (omega arith) ∙ sym same ∙ sym (over-full (held ++ w) first (omega arith));
+          fits = λ b. omega arith;
+          full = λ b. omega arith;
+        }
 
-  -- one byte more where there is room
-  pub put-within : n < length before → Filled (held ++ (x ∷ [])) first (set before n x) (n + 1)
-  put-within h = go (dec_le (length held) (length first))
-    where
-      go : Dec (length held ≤ length first) → Filled (held ++ (x ∷ [])) first (set before n x) (n + 1)
-      go (no a) = absurd (omega (arith, long, f.full (omega arith)))
-      go (yes a) =
-          let m : n ≡ length held = f.fits a in
-          let l = long in
-          let o : length (held ++ (x ∷ [])) ≡ suc (length held) = length-append held (x ∷ []) ∙ omega arith in
-          let split = ap (λ (b : List ℕ). held ++ b) (drop-cons first (length held) 0 (omega arith)) in
-          let z : set before n x ≡ held ++ (x ∷ drop (suc (length held)) first) =
-          ap (λ (b : List ℕ). set b n x) (f.is ∙ over-fits held first a ∙ split) ∙ set_at held _ _ x n (sym m) in
-          record {
-            is =
-                z ∙ sym (append_assoc held (x ∷ []) (drop (suc (length held)) first)) ∙ ap (λ (k : ℕ). (held ++ (x ∷ [])) ++ drop k first) (sym o)
-                ∙ sym (over-fits (held ++ (x ∷ [])) first (omega arith));
-            fits = λ _. omega arith;
-            full = λ b. omega arith;
-          }
+module _ (w before : List ℕ) (n : ℕ) (h : n ≤ length before) where
+  -- what is held stands at the front, and after it what was there
+  module _ (first held : List ℕ) (f : Filled held first before n) where
+    long : length before ≡ length first
+    long = ap length f.is ∙ length_over held first
 
-  -- and where there is none
-  past : length first ≤ length held → before ≡ over (held ++ (x ∷ [])) first
-  past h =
-      let o = length-append held (x ∷ []) in
-      f.is ∙ over-full held first h ∙ sym (take-append-le (length first) held (x ∷ []) h) ∙ sym (over-full (held ++ (x ∷ [])) first (omega arith))
+    held-fits : length held ≤ length first
+    held-fits = go (dec_le (length held) (length first))
+      where
+        go : Dec (length held ≤ length first) → length held ≤ length first
+        go (yes a) = a
+        go (no a) = absurd (omega (arith, long, f.full (omega arith)))
 
-  pub put_last : n ≡ length before → Filled (held ++ (x ∷ [])) first before (n + 1)
-  put_last h = go (dec_le (length held) (length first))
-    where
-      go : Dec (length held ≤ length first) → Filled (held ++ (x ∷ [])) first before (n + 1)
-      go (no a) = absurd (omega (arith, long, f.full (omega arith)))
-      go (yes a) =
-          let l = long in
-          let m : n ≡ length held = f.fits a in
-          let o = length-append held (x ∷ []) in
-          record { is = past (omega arith); fits = λ b. omega arith; full = λ b. omega arith }
+    count : n ≡ length held
+    count = f.fits held-fits
 
-  pub put-past : length before < n → Filled (held ++ (x ∷ [])) first before n
-  put-past h = go (dec_le (length held) (length first))
-    where
-      go : Dec (length held ≤ length first) → Filled (held ++ (x ∷ [])) first before n
-      go (yes a) = absurd (omega (arith, long, f.fits a))
-      go (no a) =
-          let l = long in
-          let m : n ≡ length first + 1 = f.full (omega arith) in
-          let o = length-append held (x ∷ []) in
-          record { is = past (omega arith); fits = λ b. omega arith; full = λ b. omega arith }
+    before-is : before ≡ held ++ drop (length held) first
+    before-is = f.is ∙ over-fits held first held-fits
+
+    front : take n before ≡ held
+    front = ap₂ take count before-is ∙ take-append_seam held (drop (length held) first)
+
+    past : (k : ℕ) → drop (n + k) before ≡ drop (length held + k) first
+    past k =
+        let e : n + k ≡ length held + k = omega (arith, count) in
+        ap₂ drop e before-is ∙ drop-append-add held (drop (length held) first) k ∙ drop-drop k (length held) first
+
+  -- where all of it fits, it stands whole
+  pub puts-all : length w ≤ length before - n → Puts w before n (take n before ++ (w ++ drop (n + length w) before)) (n + length w)
+  puts-all room first held f =
+      let c = count first held f in
+      let l = long first held f in
+      let o = length-append held w in
+      let e : length held + length w ≡ length (held ++ w) = omega arith in
+      record {
+        is =
+            ap₂ (λ (x y : List ℕ). x ++ (w ++ y)) (front first held f) (past first held f (length w)) ∙ sym (append_assoc held w _)
+            ∙ ap (λ (k : ℕ). (held ++ w) ++ drop k first) e ∙ sym (over-fits (held ++ w) first (omega arith));
+        fits = λ _. omega arith;
+        full = λ b. omega arith;
+      }
+
+  -- and else its front up to the end
+  pub puts-front : length before - n < length w
+      → Puts w before n (take n before ++ (take (length before - n) w ++ drop (n + (length before - n)) before)) (length before + 1)
+  puts-front room first held f =
+      let c = count first held f in
+      let l = long first held f in
+      let o = length-append held w in
+      let k : length first ≡ length held + (length before - n) = omega arith in
+      let none = drop_of_length-le before {i = n + (length before - n)} (omega arith) in
+      record {
+        is =
+            ap₂ (λ (x y : List ℕ). x ++ (take (length before - n) w ++ y)) (front first held f) none
+            ∙ ap (λ (x : List ℕ). held ++ x) (append-nil (take (length before - n) w))
+            ∙ sym (take-append-add held w (length before - n)) ∙ ap (λ (j : ℕ). take j (held ++ w)) (sym k)
+            ∙ sym (over-full (held ++ w) first (omega arith));
+        fits = λ b. omega arith;
+        full = λ _. omega arith;
+      }
 
 -- ---- one after another
 pub puts_none : (before : List ℕ) (n : ℕ) → Puts [] before n before n
@@ -83,10 +108,6 @@ puts_none before n first held f = rw append-nil f
 pub puts-both : (u w before between after : List ℕ) (n k r : ℕ) → Puts u before n between k → Puts w between k after r → Puts (u ++ w) before n after r
 puts-both u w before between after n k r p q first held f =
     subst (λ (l : List ℕ). Filled l first after r) (append_assoc held u w) (q first (held ++ u) (p first held f))
-
-pub puts-more : (w before between after : List ℕ) (n k r i : ℕ) → i < length w → Puts (take i w) before n between k
-    → Puts (get_or w i 0 ∷ []) between k after r → Puts (take (i + 1) w) before n after r
-puts-more w before between after n k r i h p q = rw (add-one, take-suc w i 0) (puts-both (take i w) (get_or w i 0 ∷ []) before between after n k r p q)
 
 -- an output holds nothing at first
 pub filled_none : (first : List ℕ) → Filled [] first first 0
@@ -114,8 +135,3 @@ pub puts-line : (a : Answer) (apart printed before after : List ℕ) (long n r :
 puts-line a apart printed before after long n r f few p =
     let e = ap (take long) f.filled ∙ take_at f.line (drop long apart) long (sym f.count) in
     (f.line, f.is-line, subst (λ (l : List ℕ). Puts l before n after r) e p, omega (arith, f.count, f.fits))
-
--- what is told of a record is told by its kind
-pub told-as : (next x : Next) (a : Answer) (before : List ℕ) (n : ℕ) (after : List ℕ) (r : Told) → next ≡ x
-    → ToldIs x a before n after r → ToldIs next a before n after r
-told-as next x a before n after r e p = subst (λ (y : Next). ToldIs y a before n after r) (sym e) p

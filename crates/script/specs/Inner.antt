@@ -1,14 +1,14 @@
--- What the functions inside tell: where the parts of a record stand, and what was written to an output. A device of the proofs.
-use Rattle.std.specs.Prelude.{◌≡◌, Bool, true, false, cond, List, [], ◌++◌, ◌⊎◌, ℕ, ◌+◌, ◌<◌, ◌≤◌, eqb, length, get_or, take, drop}
+-- What the functions inside tell: what stands at the front of an input, and what was written to an output. A device of the proofs.
+use Rattle.std.specs.Prelude.{◌≡◌, Bool, true, false, cond, Option, Some, None, List, [], ◌++◌, ◌⊎◌, ℕ, ◌+◌, ◌<◌, ◌≤◌, eqb, length, get_or, take, drop}
+use Rattle.std.proofs.Common.{Bor}
 use Rattle.answer.specs.declared.Answer.{Answer}
 use Rattle.policy.specs.declared.State.{State}
-use Rattle.machine.specs.Machine.{Request, change, bypass}
+use Rattle.image.specs.Image.{expression_bytes}
+use Rattle.machine.specs.Machine.{Request, change, bypass, Step}
 use Rattle.lines.specs.Lines.{Line}
-use Rattle.script.specs.declared.Told.{Told}
-use Rattle.script.specs.declared.Next.{Next}
-use Rattle.script.specs.declared.Next.TheVariants.{Ended, Cut, Whole}
-use Rattle.script.specs.declared.Extent.{Extent}
-use Rattle.script.specs.Script.{cut_line, longest_front, stated, Plays, Filled}
+use Rattle.script.specs.declared.Front.{Front}
+use Rattle.script.specs.Script.{IsRecord, cut_line, longest_front, stated, image_in, Plays, Filled}
+use Rattle.script.specs.Playing.{NoRecord}
 use Rattle.script.specs.Windows.{line_room, Waits}
 
 -- 04 or 05 slot file mode, length byte and bytes, twice: the two expressions, the place of the second length byte, and the end
@@ -37,12 +37,15 @@ pub record Stored (bs : List ℕ) : Type 0 where
   pub second : second_at bs < length bs
   pub all : end_at bs ≤ length bs
 
--- where the two expressions of a record 04 or 05 stand, or that they are not all there
-pub record Bounded (bs : List ℕ) (whole : Bool) (mid end : ℕ) : Type 0 where
-  pub stored : whole ≡ true → Stored bs
-  pub mid-is : whole ≡ true → mid ≡ second_at bs
-  pub end_is : whole ≡ true → end ≡ end_at bs
-  pub not-stored : whole ≡ false → Stored bs → ⊥
+-- an expression stands at the front, a length byte and so many bytes, with these bytes after it; or there are fewer
+abbrev pub ExpressionIs : List ℕ → Option (Bor (List ℕ) × Bor (List ℕ)) → Type 0
+ExpressionIs bs None = length bs < 1 + get_or bs 0 0
+ExpressionIs bs (Some p) = bs ≡ expression_bytes p.0.now ++ p.1.now
+
+-- two do, or no two do
+abbrev pub TwoAre : List ℕ → Option (Bor (List ℕ) × Bor (List ℕ) × Bor (List ℕ)) → Type 0
+TwoAre bs None = (x y left : List ℕ) → bs ≡ expression_bytes x ++ (expression_bytes y ++ left) → ⊥
+TwoAre bs (Some p) = bs ≡ expression_bytes p.0.now ++ (expression_bytes p.1.now ++ p.2.now)
 
 -- w was written after what an output holds already, whatever that is
 abbrev pub Puts : List ℕ → List ℕ → ℕ → List ℕ → ℕ → Type 0
@@ -52,11 +55,10 @@ Puts w before n after r = (first held : List ℕ) → Filled held first before n
 abbrev pub PutsLine : Answer → List ℕ → ℕ → List ℕ → ℕ → Type 0
 PutsLine a before n after r = (line : List ℕ) × Line a [] line × Puts line before n after r × (length line ≤ line_room)
 
--- what is printed of the next record, how many bytes it has, and whether the run goes on
-abbrev pub ToldIs : Next → Answer → List ℕ → ℕ → List ℕ → Told → Type 0
-ToldIs Ended a before n after r = (r.more ≡ false) × Puts [] before n after r.n
-ToldIs Cut a before n after r = (r.more ≡ false) × Puts cut_line before n after r.n
-ToldIs (Whole k) a before n after r = (r.more ≡ true) × (r.used ≡ k) × PutsLine a before n after r.n
+-- the next record was played and told: where the run ends, what is printed last; else its call, the line of its answer, and the bytes after it
+abbrev pub ToldIs : State → List ℕ → List ℕ → ℕ → State → List ℕ → ℕ → Option (Bor (List ℕ)) → Type 0
+ToldIs s bs before n t after r None = ((bs ≡ []) × Puts [] before n after r) ⊎ ((bs ≡ [] → ⊥) × NoRecord bs × Puts cut_line before n after r)
+ToldIs s bs before n t after r (Some left) = (q : Request) × (a : Answer) × IsRecord bs q left.now × Step s q a t × PutsLine a before n after r
 
 -- from the state s these bytes were played, and what they print was written after what an output holds already
 pub record PlayedOn (s : State) (bytes before : List ℕ) (n : ℕ) (after : List ℕ) (r : ℕ) : Type 0 where
@@ -64,13 +66,15 @@ pub record PlayedOn (s : State) (bytes before : List ℕ) (n : ℕ) (after : Lis
   pub plays : Plays s bytes printed
   pub put : Puts printed before n after r
 
--- where the image of an input ends, as far as it is there, and whether all of it is
-pub record ExtentIs (input : List ℕ) (r : Extent) : Type 0 where
-  pub few : 2 + stated input ≤ longest_front
-  pub low : 2 ≤ r.end
-  pub within : r.end ≤ length input
-  pub whole : r.whole ≡ true → r.end ≡ 2 + stated input
-  pub short : r.whole ≡ false → (r.end ≡ length input) × (length input < 2 + stated input)
+-- the records of an input are these, or its image is not all there
+abbrev pub RecordsAre : List ℕ → Option (Bor (List ℕ)) → Type 0
+RecordsAre input None = length input < 2 + stated input
+RecordsAre input (Some records) = (2 + stated input ≤ length input) × (records.now ≡ drop (2 + stated input) input)
+
+-- the front of an input; under two bytes there is none
+abbrev pub FrontIs : List ℕ → Option Front → Type 0
+FrontIs input None = length input < 2
+FrontIs input (Some f) = (2 ≤ length input) × (2 + stated input ≤ longest_front) × (f.image.now ≡ image_in input) × RecordsAre input f.records
 
 -- whether what comes next can be played, or has to wait
 pub record MayPlay (enough line : ℕ) (ends : Bool) (left room : ℕ) (r : Bool) : Type 0 where

@@ -1,5 +1,5 @@
 -- An input prints one thing, and fills an output in one way. Assumes nothing.
-use Rattle.std.specs.Prelude.{◌≡◌, refl, cond, List, [], ◌∷◌, ◌++◌, ℕ, ◌+◌, ◌≤◌, eqb, length, get_or, take, drop}
+use Rattle.std.specs.Prelude.{◌≡◌, refl, cond, List, [], ◌∷◌, ◌++◌, ℕ, ◌+◌, ◌≤◌, ⊤, eqb, length, get_or, take, drop}
 use Rattle.std.proofs.Common.{sym, ap, ap₂, ◌∙◌, subst, inl, inr, arith, length-drop, drop-drop}
 use Rattle.std.proofs.Math.Decide.{dec_le}
 use Rattle.std.proofs.Math.Seq.{take-append_seam, drop-append_seam, drop-append-add}
@@ -14,9 +14,8 @@ use Rattle.lines.specs.Laws.{one_line}
 use Rattle.script.specs.Script.{IsRecord, a-begin, an-end, an-ask, a-change, a-bypass, Plays, ended, called, cut, Prints, stated, image_in, over, Replays}
 use Rattle.gate.specs.Effects.{after}
 use Rattle.script.specs.declared.Played.{Played}
-use Rattle.script.specs.declared.Next.{Next}
-use Rattle.script.specs.declared.Next.TheVariants.{Ended, Cut, Whole}
-use Rattle.script.specs.Playing.{NoCall, NextIs, PlayedIs}
+use Rattle.script.specs.declared.Played.TheVariants.{Ended, Cut, Called}
+use Rattle.script.specs.Playing.{PlayedIs}
 use Rattle.script.specs.Inner.{second_at, end_at, first_of, second_of, store_in}
 use Rattle.script.specs.Records.{second-length}
 
@@ -80,7 +79,7 @@ none_in a-change e = let z = ap length e in omega arith
 none_in a-bypass e = let z = ap length e in omega arith
 
 -- ---- one output
-one-call : (s t u : State) (q p : Request) (a b : Answer) → Step s q a t → Step s p b u → q ≡ p → Same a b t u
+pub one-call : (s t u : State) (q p : Request) (a b : Answer) → Step s q a t → Step s p b u → q ≡ p → Same a b t u
 one-call s t u q p a b x y e = one-step s q a b t u x (subst (λ (o : Request). Step s o b u) (sym e) y)
 
 same_line : {a b : Answer} {l m : List ℕ} → Line a [] l → Line b [] m → a ≡ b → l ≡ m
@@ -126,30 +125,23 @@ one-replay {before = before} {r = r} {s = s} p q =
     go l (no n) = p.filled.full (omega arith) ∙ sym (q.filled.full (omega arith))
 
 -- ---- the next record: what stands there is one, and so are the answer and the state after it
-same-cut : (bs : List ℕ) (m n : ℕ) → drop m bs ≡ drop n bs → m ≤ length bs → n ≤ length bs → m ≡ n
-same-cut bs m n e h l = omega (arith, ap length e, length-drop m bs, length-drop n bs)
+-- the same was played: the same stands there, and where a call was made, it gave one answer and one state and left the same bytes. (Which file an effect
+-- names is its own affair, where it alters none)
+abbrev pub SamePlayed : State → Played → Played → Type 0
+SamePlayed s Ended Ended = ⊤
+SamePlayed s Cut Cut = ⊤
+SamePlayed s (Called d l) (Called e r) = Same d.answer e.answer (after s d) (after s e) × (l.now ≡ r.now)
+SamePlayed s _ _ = ⊥
 
-module _ (s : State) (bs : List ℕ) (a b : Answer) (t u : State) where
-  no_call : NoCall s a t → NoCall s b u → Same a b t u
-  no_call p q = record {
-    answer = ap₂ (λ (n k : ℕ). record { number = n; place = k }) (p.answer.number ∙ sym q.answer.number) (p.answer.place ∙ sym q.answer.place);
-    state = p.state ∙ sym q.state;
-  }
-
-  pub one-next : (x y : Next) → NextIs s bs a t x → NextIs s bs b u y → (x ≡ y) × Same a b t u
-  one-next Ended Ended p q = (refl, no_call p.1 q.1)
-  one-next Ended Cut p q = absurd (q.0 p.0)
-  one-next Ended (Whole n) p q = absurd (none_in q.1 p.0)
-  one-next Cut Ended p q = absurd (p.0 q.0)
-  one-next Cut Cut p q = (refl, no_call p.2 q.2)
-  one-next Cut (Whole n) p q = absurd (p.1 _ _ q.1)
-  one-next (Whole n) Ended p q = absurd (none_in p.1 q.0)
-  one-next (Whole n) Cut p q = absurd (q.1 _ _ p.1)
-  one-next (Whole m) (Whole n) p q =
-      let e = one-record p.1 q.1 in
-      (ap Whole (same-cut bs m n e.1 p.4 q.4), one-call s t u p.0 q.0 a b p.2 q.2 e.0)
-
--- so a record that was played leaves one answer and one state. (Which file an effect names is its own affair, where it alters none)
-pub one-played : (s : State) (bs : List ℕ) (x y : Played) → PlayedIs s bs x → PlayedIs s bs y
-    → (x.next ≡ y.next) × Same x.effect.answer y.effect.answer (after s x.effect) (after s y.effect)
-one-played s bs x y p q = one-next s bs _ _ _ _ x.next y.next p.is q.is
+pub one-played : (s : State) (bs : List ℕ) (x y : Played) → PlayedIs s bs x → PlayedIs s bs y → SamePlayed s x y
+one-played s bs Ended Ended p q = tt
+one-played s bs Ended Cut p q = q.0 p
+one-played s bs Ended (Called e r) p q = none_in q.1 p
+one-played s bs Cut Ended p q = p.0 q
+one-played s bs Cut Cut p q = tt
+one-played s bs Cut (Called e r) p q = p.1 _ _ q.1
+one-played s bs (Called d l) Ended p q = none_in p.1 q
+one-played s bs (Called d l) Cut p q = q.1 _ _ p.1
+one-played s bs (Called d l) (Called e r) p q =
+    let o = one-record p.1 q.1 in
+    (one-call s (after s d) (after s e) p.0 q.0 d.answer e.answer p.2.is q.2.is o.0, o.1)

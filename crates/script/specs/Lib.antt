@@ -3,7 +3,6 @@ pub mod Records
 pub mod Playing
 pub mod Windows
 pub mod Inner
-pub mod PlayLaws
 pub mod FillLaws
 pub mod Laws
 pub mod Bound

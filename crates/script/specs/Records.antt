@@ -1,10 +1,11 @@
 -- Which bytes are which record, read off byte by byte. Assumes nothing.
-use Rattle.std.specs.Prelude.{◌≡◌, refl, List, [], ◌∷◌, ◌++◌, ℕ, suc, ◌+◌, ◌<◌, ◌≤◌, length, get_or, take, drop}
-use Rattle.std.proofs.Common.{sym, ap, ◌∙◌, subst, arith, length-append, take-append-drop, length-drop, length-take-le, drop-drop, drop-cons, get_or-drop}
+use Rattle.std.specs.Prelude.{◌≡◌, refl, List, [], ◌∷◌, ◌++◌, ℕ, suc, ◌+◌, ◌-◌, ◌<◌, ◌≤◌, length, get_or, take, drop}
+use Rattle.std.proofs.Common.{sym, ap, ap₂, ◌∙◌, subst, append_assoc, arith}
+use Rattle.std.proofs.Common.{length-append, take-append-drop, length-drop, length-take-le, drop-drop, drop-cons, get_or-drop}
 use Rattle.std.proofs.Math.Decide.{ℕ_discrete}
-use Rattle.std.proofs.Math.Seq.{get_or-append_seam}
+use Rattle.std.proofs.Math.Seq.{get_or-append_seam, drop-append_seam}
 use Rattle.image.specs.Image.{expression_bytes}
-use Rattle.machine.specs.Machine.{begin, end, ask}
+use Rattle.machine.specs.Machine.{Request, begin, end, ask, change, bypass}
 use Rattle.script.specs.Script.{IsRecord, a-begin, an-end, an-ask, a-change, a-bypass}
 use Rattle.script.specs.Playing.{NoRecord}
 use Rattle.script.specs.Inner.{second_at, end_at, first_of, second_of, store_of, store_in, Stored}
@@ -97,6 +98,20 @@ four-on (x ∷ y ∷ []) h = absurd (omega arith)
 four-on (x ∷ y ∷ z ∷ []) h = absurd (omega arith)
 four-on (x ∷ y ∷ z ∷ w ∷ r) h = refl
 
+-- with the two expressions at hand
+module _ (bs x y left : List ℕ) (h : 4 ≤ length bs) (e : drop 4 bs ≡ expression_bytes x ++ (expression_bytes y ++ left)) where
+  coded : (code : ℕ) → get_or bs 0 0 ≡ code
+      → bs ≡ code ∷ get_or bs 1 0 ∷ get_or bs 2 0 ∷ get_or bs 3 0 ∷ (expression_bytes x ++ (expression_bytes y ++ left))
+  coded code c = four-on bs h ∙ ap₂ (λ (k : ℕ) (l : List ℕ). k ∷ get_or bs 1 0 ∷ get_or bs 2 0 ∷ get_or bs 3 0 ∷ l) c e
+
+  pub change-whole : get_or bs 0 0 ≡ 4 → IsRecord bs (change (get_or bs 1 0) (get_or bs 2 0) (get_or bs 3 0) x y) left
+  change-whole c =
+      subst (λ (l : List ℕ). IsRecord l (change (get_or bs 1 0) (get_or bs 2 0) (get_or bs 3 0) x y) left) (sym (coded 4 c)) a-change
+
+  pub bypass-whole : get_or bs 0 0 ≡ 5 → IsRecord bs (bypass (get_or bs 1 0) (get_or bs 2 0) (get_or bs 3 0) x y) left
+  bypass-whole c =
+      subst (λ (l : List ℕ). IsRecord l (bypass (get_or bs 1 0) (get_or bs 2 0) (get_or bs 3 0) x y) left) (sym (coded 5 c)) a-bypass
+
 module _ (bs : List ℕ) (h : 5 ≤ length bs) (l : second_at bs < length bs) (m : end_at bs ≤ length bs) where
   written : (code : ℕ) → get_or bs 0 0 ≡ code
       → bs ≡ code ∷ get_or bs 1 0 ∷ get_or bs 2 0 ∷ get_or bs 3 0 ∷ (expression_bytes (first_of bs) ++ (expression_bytes (second_of bs) ++ drop (end_at bs) bs))
@@ -129,3 +144,28 @@ stored_cut bs h n q rest an-end = omega arith
 stored_cut bs h n q rest an-ask = omega arith
 stored_cut bs h n q rest (a-change {slot} {file} {mode} {x} {y}) = n (stored 4 slot file mode x y rest bs refl)
 stored_cut bs h n q rest (a-bypass {slot} {file} {mode} {x} {y}) = n (stored 5 slot file mode x y rest bs refl)
+
+-- what comes after a record is the end of its bytes
+record-front : {bs rest : List ℕ} {q : Request} → IsRecord bs q rest → (front : List ℕ) × (0 < length front) × (bs ≡ front ++ rest)
+record-front (a-begin {slot} {role}) = (1 ∷ slot ∷ role ∷ [], omega arith, refl)
+record-front (an-end {slot}) = (2 ∷ slot ∷ [], omega arith, refl)
+record-front (an-ask {slot} {file} {mode}) = (3 ∷ slot ∷ file ∷ mode ∷ [], omega arith, refl)
+record-front {rest = rest} (a-change {slot} {file} {mode} {x} {y}) =
+    let both = sym (append_assoc (expression_bytes x) (expression_bytes y) rest) in (
+      4 ∷ slot ∷ file ∷ mode ∷ (expression_bytes x ++ expression_bytes y),
+      omega arith,
+      ap (λ (l : List ℕ). 4 ∷ slot ∷ file ∷ mode ∷ l) both,
+    )
+record-front {rest = rest} (a-bypass {slot} {file} {mode} {x} {y}) =
+    let both = sym (append_assoc (expression_bytes x) (expression_bytes y) rest) in (
+      5 ∷ slot ∷ file ∷ mode ∷ (expression_bytes x ++ expression_bytes y),
+      omega arith,
+      ap (λ (l : List ℕ). 5 ∷ slot ∷ file ∷ mode ∷ l) both,
+    )
+
+pub record-left : {bs rest : List ℕ} {q : Request} → IsRecord bs q rest → (length rest < length bs) × (rest ≡ drop (length bs - length rest) bs)
+record-left {bs} {rest} i =
+    let w = record-front i in
+    let long = ap length w.2 ∙ length-append w.0 rest in
+    let k : length bs - length rest ≡ length w.0 = omega arith in
+    (omega (arith, w.1), sym (ap₂ drop k w.2 ∙ drop-append_seam w.0 rest))

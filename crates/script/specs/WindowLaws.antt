@@ -1,5 +1,5 @@
 -- The blocks of a replay that reads window by window are what its whole input prints. Assumes nothing.
-use Rattle.std.specs.Prelude.{◌≡◌, refl, Bool, true, false, List, [], ◌∷◌, ◌++◌, ℕ, ◌+◌, ◌<◌, ◌≤◌, length, get_or, take, drop}
+use Rattle.std.specs.Prelude.{◌≡◌, refl, Option, Some, None, List, [], ◌∷◌, ◌++◌, ℕ, ◌+◌, ◌<◌, ◌≤◌, length, get_or, take, drop}
 use Rattle.std.proofs.Common.{sym, ap, ap₂, ◌∙◌, subst, append-nil, append_assoc, inr, arith, length-append, length-drop, take_at}
 use Rattle.std.proofs.Math.ListN.{get_or-append}
 use Rattle.std.proofs.Math.Seq.{slice}
@@ -74,28 +74,29 @@ module _ (window later : List ℕ) (h : 2 + stated window ≤ length window) whe
       ap₂ (λ (k : ℕ) (b : List ℕ). take k b) stated-later (drop-append-le 2 window later (omega arith))
       ∙ take-append-le (stated window) (drop 2 window) later (omega arith)
 
-  pub load-later : {s t : State} {a : Answer} {line : List ℕ} → Step fresh_state (load (image_in window)) a t → Line a [] line
-      → PlaysTo false s (window ++ later) true t (drop (2 + stated window) window ++ later) line
-  load-later {s} {t} {a} {line} x l =
+  pub load-later : {t : State} {a : Answer} {line : List ℕ} → Step fresh_state (load (image_in window)) a t → Line a [] line
+      → PlaysTo None (window ++ later) (Some t) (drop (2 + stated window) window ++ later) line
+  load-later {t} {a} {line} x l =
       let n = stated-later in
       let there : 2 + stated (window ++ later) ≤ length (window ++ later) = omega (arith, length-append window later) in
       let past : drop (2 + stated (window ++ later)) (window ++ later) ≡ drop (2 + stated window) window ++ later =
       ap (λ (k : ℕ). drop (2 + k) (window ++ later)) n ∙ drop-append-le (2 + stated window) window later h in
       let y : Step fresh_state (load (image_in (window ++ later))) a t = subst (λ (b : List ℕ). Step fresh_state (load b) a t) (sym image-later) x in
-      let on = subst (λ (b : List ℕ). PlaysTo true t (drop (2 + stated (window ++ later)) (window ++ later)) true t b []) past none_yet in
-      subst (λ (p : List ℕ). PlaysTo false s (window ++ later) true t (drop (2 + stated window) window ++ later) p) (append-nil line) (loads there y l on)
+      let on = subst (λ (b : List ℕ). PlaysTo (Some t) (drop (2 + stated (window ++ later)) (window ++ later)) (Some t) b []) past none_yet in
+      subst (λ (p : List ℕ). PlaysTo None (window ++ later) (Some t) (drop (2 + stated window) window ++ later) p) (append-nil line) (loads there y l on)
 
 -- ---- one after another
 pub one-call-on : {s t : State} {bytes rest line : List ℕ} {q : Request} {a : Answer} → IsRecord bytes q rest → Step s q a t → Line a [] line
-    → PlaysTo true s bytes true t rest line
-one-call-on {s} {t} {bytes} {rest} {line} i x l = subst (λ (p : List ℕ). PlaysTo true s bytes true t rest p) (append-nil line) (calls i x l none_yet)
+    → PlaysTo (Some s) bytes (Some t) rest line
+one-call-on {s} {t} {bytes} {rest} {line} i x l =
+    subst (λ (p : List ℕ). PlaysTo (Some s) bytes (Some t) rest p) (append-nil line) (calls i x l none_yet)
 
-pub then-further : {b c d : Bool} {s t u : State} {x y z v w : List ℕ} → PlaysTo b s x c t y v → PlaysTo c t y d u z w → PlaysTo b s x d u z (v ++ w)
+pub then-further : {s t u : Option State} {x y z v w : List ℕ} → PlaysTo s x t y v → PlaysTo t y u z w → PlaysTo s x u z (v ++ w)
 then-further none_yet q = q
 then-further (loads h x l p) q = rw append_assoc (loads h x l (then-further p q))
 then-further (calls i x l p) q = rw append_assoc (calls i x l (then-further p q))
 
-pub then-out : {b c : Bool} {s t : State} {x y v : List ℕ} (w : List ℕ) → PlaysTo b s x c t y v → PlaysOut c t y w → PlaysOut b s x (v ++ w)
+pub then-out : {s t : Option State} {x y v : List ℕ} (w : List ℕ) → PlaysTo s x t y v → PlaysOut t y w → PlaysOut s x (v ++ w)
 then-out w none_yet q = q
 then-out w (loads {t = t} {line = line} {printed = printed} {a = a} h x l p) q =
     inr
@@ -118,18 +119,18 @@ pub front-is : {before after : List ℕ} {at n r : ℕ} → Fronted before at n 
 front-is {before} {at = at} {n} {r} x = ap (take r) x.is ∙ take_at (slice at n before) (drop r before) r (sym x.count)
 
 -- the blocks of the windows, one after another, are what is printed from there
-streams-out : {loaded : Bool} {s : State} {input blocks : List ℕ} → Streams loaded s input blocks → PlaysOut loaded s input blocks
-streams-out {loaded} {s} (last window later {before = before} {r = r} x m e) =
+streams-out : {s : Option State} {input blocks : List ℕ} → Streams s input blocks → PlaysOut s input blocks
+streams-out {s} (last window later {before = before} {r = r} x m e) =
     let is = ap (take r.n) x.is ∙ take_at x.printed (drop r.n before) r.n (sym x.count) in
-    subst (PlaysOut loaded s (window ++ later)) (sym is) (x.stops m later e)
-streams-out {loaded} {s} (next window later {before = before} {blocks = blocks} {r = r} x m more) =
+    subst (PlaysOut s (window ++ later)) (sym is) (x.stops m later e)
+streams-out {s} (next window later {before = before} {blocks = blocks} {r = r} x m more) =
     let is = ap (take r.n) x.is ∙ take_at x.printed (drop r.n before) r.n (sym x.count) in
-    subst (λ (w : List ℕ). PlaysOut loaded s (window ++ later) (w ++ blocks)) (sym is) (then-out blocks (x.goes m later) (streams-out more))
+    subst (λ (w : List ℕ). PlaysOut s (window ++ later) (w ++ blocks)) (sym is) (then-out blocks (x.goes m later) (streams-out more))
 
 -- and from the front of the input, what the whole input prints
-pub streamed : {s : State} {input blocks : List ℕ} → Streams false s input blocks → Prints input blocks
+pub streamed : {input blocks : List ℕ} → Streams None input blocks → Prints input blocks
 streamed x = streams-out x
 
 -- which is one, however the input is cut into windows
-pub one-stream : {s t : State} {input p q : List ℕ} → Streams false s input p → Streams false t input q → p ≡ q
+pub one-stream : {input p q : List ℕ} → Streams None input p → Streams None input q → p ≡ q
 one-stream x y = one-printed (streamed x) (streamed y)

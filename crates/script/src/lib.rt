@@ -1,26 +1,18 @@
 // A replay input, record by record, to lines of output (01, "The replay program").
 #![tactic(auto)]
 
-ghost use Rattle.std.specs.Prelude.{◌≡◌, true, false, [], ◌∷◌, ◌+◌, ◌<◌, ◌≤◌, min, length, get_or, drop};
-ghost use Rattle.gate.specs.Effects.{Tells};
-ghost use Rattle.machine.specs.Machine.{Step};
+ghost use Rattle.std.specs.Prelude.{◌≡◌, min, None, Some};
 ghost use Rattle.script.specs.Script.{Replays};
-ghost use Rattle.script.specs.Playing.{NoCall, PlayedIs};
+ghost use Rattle.script.specs.Playing.{PlayedIs};
 ghost use Rattle.script.specs.Windows.{at_front, WindowIs, Fronted};
-ghost use Rattle.script.specs.Inner.{store_of, Bounded, Puts, PutsLine, ToldIs, PlayedOn, ExtentIs, MayPlay};
+ghost use Rattle.script.specs.Inner.{ExpressionIs, TwoAre, Puts, PutsLine, ToldIs, PlayedOn, FrontIs, MayPlay};
 
 use answer::Answer;
 use gate::Effect;
 use policy::State;
 
-// The codes of the records.
-pub const BEGIN: u8 = 1;
-
-pub const END: u8 = 2;
-
-pub const ASK: u8 = 3;
-
-pub const CHANGE: u8 = 4;
+// The codes of the records: those of the requests, and one for a bypass. (Bytes of the published format, and no enum: any byte may stand there.)
+pub use machine::{ASK, BEGIN, CHANGE, END};
 
 pub const BYPASS: u8 = 5;
 
@@ -36,314 +28,146 @@ const LINE: usize = lines::PRINTED;
 // The bytes of a window that a program reads its input by: more than any that have to be there at once.
 pub const WINDOW: usize = 131072;
 
-// What stands next in the input: nothing; a broken-off or unknown record; or a whole record of so many bytes.
+// What came of the next record: the input has ended; no whole record stands there; or one does, and this is what its call gave back and the bytes
+// after it. (Three answers, of which the input's end is no fault: no shape of an Option or a Result.)
 #[derive(Clone, Copy)]
-pub enum Next {
+pub enum Played<'a> {
     Ended,
     Cut,
-    Whole(usize),
+    Called(Effect, &'a [u8]),
 }
 
-// What came of the next record: what its call gave back, where it is whole.
+// The front of an input: its image, as far as it is there, and the records after it, where it is all there.
 #[derive(Clone, Copy)]
-pub struct Played {
-    pub next: Next,
-    pub effect: Effect,
+struct Front<'a> {
+    image: &'a [u8],
+    records: Option<&'a [u8]>,
 }
 
-// What was printed of a record: how full the output is, how many bytes the record has, and whether the run goes on.
-#[derive(Clone, Copy)]
-struct Told {
-    n: usize,
-    used: usize,
-    more: bool,
-}
-
-// Where the two expressions of a record 04 or 05 stand, if they are all there: the place of the second length byte, and the end.
-#[derive(Clone, Copy)]
-struct Bounds {
-    whole: bool,
-    mid: usize,
-    end: usize,
-}
-
-// Where the image of an input ends, as far as it is there, and whether all of it is.
-#[derive(Clone, Copy)]
-struct Extent {
-    end: usize,
-    whole: bool,
-}
-
-// How far a replay came: whether its image was loaded, and the state; of its last window, how many bytes were used, how many
-// were printed, and whether the run goes on.
+// How far a replay came: the state, once its image was loaded; of its last window, how many bytes were used, how many were printed, and whether the
+// run goes on.
 #[derive(Clone, Copy)]
 pub struct Windowed {
-    pub loaded: bool,
-    pub state: State,
+    pub state: Option<State>,
     pub used: usize,
     pub n: usize,
     pub more: bool,
 }
 
-fn wide(x: u8) -> usize
-    ensures { (result ≡ x) × (result < 256) }
+// An expression, a length byte and so many bytes, and what comes after it.
+fn expression_at(bytes: &[u8]) -> Option<(&[u8], &[u8])>
+    ensures { ExpressionIs bytes.now result }
 {
-    x as usize
+    let (long, rest) = bytes.split_first()?;
+    rest.split_at_checked(usize::from(*long))
 }
 
-// Where the two expressions of a record 04 or 05 stand.
-fn bounds_in(rest: &[u8]) -> Bounds
-    ensures { Bounded rest.now result.whole result.mid result.end }
+// The two expressions of a record 04 or 05, and what comes after it.
+fn two_expressions(bytes: &[u8]) -> Option<(&[u8], &[u8], &[u8])>
+    ensures { TwoAre bytes.now result }
 {
-    let none = Bounds {
-        whole: false,
-        mid: 0,
-        end: 0,
-    };
-    if rest.len() < 5 {
-        return none;
-    }
-    let mid = 5 + wide(rest[4]);
-    if rest.len() <= mid {
-        return none;
-    }
-    let end = mid + 1 + wide(rest[mid]);
-    if rest.len() < end {
-        return none;
-    }
-    Bounds {
-        whole: true,
-        mid,
-        end,
-    }
-}
-
-// No call is made: 0 stands for the answer, and nothing changes.
-fn uncalled(next: Next, s: State) -> Played
-    ensures { (result.next ≡ next) × Tells s (λ o. NoCall s o.answer o.state) result.effect }
-{
-    let slots = s.slots;
-    let files = s.files;
-    let file = files[0];
-    let effect = Effect {
-        answer: Answer::of(answer::DONE),
-        slots,
-        at: 0,
-        file,
-    };
-    Played { next, effect }
-}
-
-// 01 slot role.
-fn play_begin(s: State, rest: &[u8]) -> Played
-    requires { (0 < length rest.now) × (get_or rest.now 0 0 ≡ 1) }
-    ensures { PlayedIs s rest.now result }
-{
-    if rest.len() < 3 {
-        return uncalled(Next::Cut, s);
-    }
-    Played {
-        next: Next::Whole(3),
-        effect: gate::begin(s, rest[1], rest[2]),
-    }
-}
-
-// 02 slot.
-fn play_end(s: State, rest: &[u8]) -> Played
-    requires { (0 < length rest.now) × (get_or rest.now 0 0 ≡ 2) }
-    ensures { PlayedIs s rest.now result }
-{
-    if rest.len() < 2 {
-        return uncalled(Next::Cut, s);
-    }
-    Played {
-        next: Next::Whole(2),
-        effect: gate::end(s, rest[1]),
-    }
-}
-
-// 03 slot file mode.
-fn play_ask(s: State, rest: &[u8]) -> Played
-    requires { (0 < length rest.now) × (get_or rest.now 0 0 ≡ 3) }
-    ensures { PlayedIs s rest.now result }
-{
-    if rest.len() < 4 {
-        return uncalled(Next::Cut, s);
-    }
-    Played {
-        next: Next::Whole(4),
-        effect: gate::ask(s, rest[1], rest[2], rest[3]),
-    }
-}
-
-// change or bypass, by the code.
-fn store(s: State, code: u8, slot: u8, file: u8, mode: u8, x: &[u8], y: &[u8]) -> Effect
-    ensures { Tells s (λ o. Step s (store_of code slot file mode x.now y.now) o.answer o.state) result }
-{
-    if code == CHANGE {
-        return gate::change(s, slot, file, mode, x, y);
-    }
-    gate::bypass(s, slot, file, mode, x, y)
-}
-
-// 04 or 05 slot file mode, length byte and bytes, twice.
-fn play_store(s: State, rest: &[u8]) -> Played
-    requires { (0 < length rest.now) × (3 < get_or rest.now 0 0) × (get_or rest.now 0 0 < 6) }
-    ensures { PlayedIs s rest.now result }
-{
-    let found = bounds_in(rest);
-    if !found.whole {
-        return uncalled(Next::Cut, s);
-    }
-    let mid = found.mid;
-    let from = mid + 1;
-    let end = found.end;
-    let effect = store(
-        s,
-        rest[0],
-        rest[1],
-        rest[2],
-        rest[3],
-        &rest[5..mid],
-        &rest[from..end],
-    );
-    Played {
-        next: Next::Whole(end),
-        effect,
-    }
+    let (x, rest) = expression_at(bytes)?;
+    let (y, left) = expression_at(rest)?;
+    Some((x, y, left))
 }
 
 // The next record of the input, run on the state.
-pub fn play(s: State, rest: &[u8]) -> Played
-    ensures { PlayedIs s rest.now result }
+pub fn play<'a>(s: &State, bytes: &'a [u8]) -> Played<'a>
+    ensures { PlayedIs s.now bytes.now result }
 {
-    if rest.len() == 0 {
-        return uncalled(Next::Ended, s);
+    match bytes {
+        [] => Played::Ended,
+        [BEGIN, slot, role, left @ ..] => Played::Called(gate::begin(s, *slot, *role), left),
+        [END, slot, left @ ..] => Played::Called(gate::end(s, *slot), left),
+        [ASK, slot, file, mode, left @ ..] => {
+            Played::Called(gate::ask(s, *slot, *file, *mode), left)
+        }
+        [CHANGE, slot, file, mode, rest @ ..] => match two_expressions(rest) {
+            Some((t1, t2, left)) => {
+                Played::Called(gate::change(s, *slot, *file, *mode, t1, t2), left)
+            }
+            None => Played::Cut,
+        },
+        [BYPASS, slot, file, mode, rest @ ..] => match two_expressions(rest) {
+            Some((e, g, left)) => {
+                Played::Called(gate::bypass(s, *slot, *file, *mode, e, g), left)
+            }
+            None => Played::Cut,
+        },
+        _ => Played::Cut,
     }
-    let code = rest[0];
-    if code == BEGIN {
-        return play_begin(s, rest);
-    }
-    if code == END {
-        return play_end(s, rest);
-    }
-    if code == ASK {
-        return play_ask(s, rest);
-    }
-    if code == CHANGE || code == BYPASS {
-        return play_store(s, rest);
-    }
-    uncalled(Next::Cut, s)
 }
 
-// x after what the output holds, where it fits. One more than the room stands for all that does not fit.
-fn put(out: &mut [u8], n: usize, x: u8) -> usize
-    ensures { Puts (x ∷ []) out.old n out.new result }
+// The bytes w after what the output holds, as far as they fit. One more than the room stands for all that does not fit. (The output and its count go as two:
+// a struct would hold the output by reference, and each promise would have to say besides that it is still the same one.)
+fn put(out: &mut [u8], n: &mut usize, w: &[u8])
+    ensures { Puts w.now out.old n.old out.new n.new }
 {
-    if n < out.len() {
-        out[n] = x;
-        return n + 1;
+    let at = *n;
+    if out.len() < at {
+        return;
     }
-    if n == out.len() {
-        return n + 1;
-    }
-    n
-}
-
-// The bytes w after what the output holds, as far as they fit.
-fn put_all(out: &mut [u8], n: usize, w: &[u8]) -> usize
-    ensures { Puts w.now out.old n out.new result }
-{
-    let mut k = n;
-    let mut i = 0;
-    while i < w.len() {
-        k = put(out, k, w[i]);
-        i += 1;
-    }
-    k
+    let room = out.len() - at;
+    let fits = w.len().min(room);
+    let end = at + fits;
+    out[at..end].copy_from_slice(&w[..fits]);
+    *n = if room < w.len() { end + 1 } else { end };
 }
 
 // The line of an answer after what the output holds.
-fn put_line(out: &mut [u8], n: usize, a: Answer) -> usize
-    ensures { PutsLine a out.old n out.new result }
+fn put_line(out: &mut [u8], n: &mut usize, a: Answer)
+    ensures { PutsLine a out.old n.old out.new n.new }
 {
     let mut line = [0u8; LINE];
     let long = lines::print(a, b"", 0, &mut line);
-    put_all(out, n, &line[..long])
+    put(out, n, &line[..long]);
 }
 
-// What is printed of the next record: its answer's line, or `cut`, or nothing.
-fn tell(out: &mut [u8], n: usize, next: Next, a: Answer) -> Told
-    ensures { ToldIs next a out.old n out.new result }
+// Plays the next record on the state where it stands, and prints its answer's line, or `cut`: the bytes after it, or None where the run ends.
+fn play_next<'a>(s: &mut State, bytes: &'a [u8], out: &mut [u8], n: &mut usize) -> Option<&'a [u8]>
+    ensures { ToldIs s.old bytes.now out.old n.old s.new out.new n.new result }
 {
-    match next {
-        Next::Ended => Told {
-            n,
-            used: 0,
-            more: false,
-        },
-        Next::Cut => Told {
-            n: put_all(out, n, b"cut\n"),
-            used: 0,
-            more: false,
-        },
-        Next::Whole(k) => Told {
-            n: put_line(out, n, a),
-            used: k,
-            more: true,
-        },
+    match play(s, bytes) {
+        Played::Ended => None,
+        Played::Cut => {
+            put(out, n, b"cut\n");
+            None
+        }
+        Played::Called(effect, left) => {
+            put_line(out, n, effect.answer);
+            machine::store(s, &effect);
+            Some(left)
+        }
     }
 }
 
-// The records of the input from a place on, one after another, each on the state that the one before it left.
-fn play_all(state: State, input: &[u8], from: usize, out: &mut [u8], n: usize) -> usize
-    requires { from ≤ length input.now }
-    ensures { PlayedOn state (drop from input.now) out.old n out.new result }
+// The records, one after another, each on the state that the one before it left.
+fn play_all(state: State, records: &[u8], out: &mut [u8], n: &mut usize)
+    ensures { PlayedOn state records.now out.old n.old out.new n.new }
 {
     let mut s = state;
-    let mut at = from;
-    let mut k = n;
-    loop {
-        let played = play(s, &input[at..]);
-        let next = played.next;
-        let effect = played.effect;
-        let answer = effect.answer;
-        let told = tell(out, k, next, answer);
-        k = told.n;
-        if !told.more {
-            return k;
-        }
-        at += told.used;
-        let slots = effect.slots;
-        let i = effect.at;
-        let file = effect.file;
-        s.slots = slots;
-        s.files[i] = file;
+    let mut rest = records;
+    while let Some(left) = play_next(&mut s, rest, out, n) {
+        rest = left;
     }
 }
 
-// The smaller of two.
-fn fewer(a: usize, b: usize) -> usize
-    ensures { result ≡ min a b }
+// The front of an input, of which the first two bytes say how long the image is. Under two bytes there is none.
+fn front_of(input: &[u8]) -> Option<Front<'_>>
+    ensures { FrontIs input.now result }
 {
-    if a < b { a } else { b }
-}
-
-// Where the image of an input ends: as many bytes on as the first two say, or at the input's end.
-fn image_extent(input: &[u8]) -> Extent
-    requires { 2 ≤ length input.now }
-    ensures { ExtentIs input.now result }
-{
-    let stated = fields::low_first(input[0], input[1]);
-    if input.len() - 2 < stated {
-        return Extent {
-            end: input.len(),
-            whole: false,
-        };
-    }
-    Extent {
-        end: 2 + stated,
-        whole: true,
+    let [low, high, rest @ ..] = input else {
+        return None;
+    };
+    match rest.split_at_checked(fields::low_first(*low, *high)) {
+        Some((image, records)) => Some(Front {
+            image,
+            records: Some(records),
+        }),
+        None => Some(Front {
+            image: rest,
+            records: None,
+        }),
     }
 }
 
@@ -351,103 +175,75 @@ fn image_extent(input: &[u8]) -> Extent
 pub fn run(input: &[u8], out: &mut [u8]) -> usize
     ensures { Replays input.now out.old out.new result }
 {
-    if input.len() < 2 {
-        return put_all(out, 0, b"cut\n");
-    }
-    let extent = image_extent(input);
-    let end = extent.end;
-    let loaded = image::load(State::fresh(), &input[2..end]);
-    let n = put_line(out, 0, loaded.answer);
-    if !extent.whole {
+    let mut n = 0;
+    let Some(front) = front_of(input) else {
+        put(out, &mut n, b"cut\n");
         return n;
+    };
+    let loaded = image::load(State::fresh(), front.image);
+    put_line(out, &mut n, loaded.answer);
+    if let Some(records) = front.records {
+        play_all(loaded.state, records, out, &mut n);
     }
-    let state = loaded.state;
-    play_all(state, input, end, out, n)
+    n
 }
 
 // Whether what comes next can be played: so many bytes are left, or all that there are, and the output has the room that a line takes.
 pub fn may_play(enough: usize, line: usize, ends: bool, left: usize, room: usize) -> bool
     ensures { MayPlay enough line ends left room result }
 {
-    if room < line {
-        return false;
-    }
-    if ends {
-        return true;
-    }
-    if left < enough {
-        return false;
-    }
-    true
+    line <= room && (ends || enough <= left)
 }
 
 // The front of the input: the image is loaded, as far as it is there. Under two bytes of length print `cut`.
-fn play_front(s: State, window: &[u8], ends: bool, out: &mut [u8]) -> Windowed
-    ensures { WindowIs false s window.now ends out.old out.new result }
+fn play_front(window: &[u8], ends: bool, out: &mut [u8]) -> Windowed
+    ensures { WindowIs None window.now ends out.old out.new result }
 {
-    let mut w = Windowed {
-        loaded: false,
-        state: s,
-        used: 0,
-        n: 0,
-        more: true,
-    };
     if !may_play(LONGEST_FRONT, LINE, ends, window.len(), out.len()) {
-        return w;
+        return at_front();
     }
-    if window.len() < 2 {
-        w.n = put_all(out, 0, b"cut\n");
-        w.more = false;
-        return w;
-    }
-    let extent = image_extent(window);
-    let end = extent.end;
-    let loaded = image::load(State::fresh(), &window[2..end]);
-    let n = put_line(out, 0, loaded.answer);
-    let state = loaded.state;
+    let mut n = 0;
+    let Some(front) = front_of(window) else {
+        put(out, &mut n, b"cut\n");
+        return Windowed {
+            state: None,
+            used: 0,
+            n,
+            more: false,
+        };
+    };
+    let loaded = image::load(State::fresh(), front.image);
+    put_line(out, &mut n, loaded.answer);
     Windowed {
-        loaded: true,
-        state,
-        used: end,
+        state: Some(loaded.state),
+        used: 2 + front.image.len(),
         n,
-        more: extent.whole,
+        more: front.records.is_some(),
     }
 }
 
-// The records at the front of a window, one after another, while the next one is decided and its line has room.
+// The records at the front of a window, one after another, while the next one is decided and its line has room. (A loop beside play_all's, which plays to
+// the end whatever room there is.)
 fn play_records(state: State, window: &[u8], ends: bool, out: &mut [u8]) -> Windowed
-    ensures { WindowIs true state window.now ends out.old out.new result }
+    ensures { WindowIs (Some state) window.now ends out.old out.new result }
 {
     let mut s = state;
-    let mut at = 0;
+    let mut rest = window;
     let mut n = 0;
-    while may_play(LONGEST_RECORD, LINE, ends, window.len() - at, out.len() - n) {
-        let played = play(s, &window[at..]);
-        let next = played.next;
-        let gave = played.effect;
-        let answer = gave.answer;
-        let told = tell(out, n, next, answer);
-        n = told.n;
-        if !told.more {
+    while may_play(LONGEST_RECORD, LINE, ends, rest.len(), out.len() - n) {
+        let Some(left) = play_next(&mut s, rest, out, &mut n) else {
             return Windowed {
-                loaded: true,
-                state: s,
-                used: at,
+                state: Some(s),
+                used: window.len() - rest.len(),
                 n,
                 more: false,
             };
-        }
-        at += told.used;
-        let slots = gave.slots;
-        let i = gave.at;
-        let file = gave.file;
-        s.slots = slots;
-        s.files[i] = file;
+        };
+        rest = left;
     }
     Windowed {
-        loaded: true,
-        state: s,
-        used: at,
+        state: Some(s),
+        used: window.len() - rest.len(),
         n,
         more: true,
     }
@@ -458,8 +254,7 @@ pub fn at_front() -> Windowed
     ensures { result ≡ at_front }
 {
     Windowed {
-        loaded: false,
-        state: State::fresh(),
+        state: None,
         used: 0,
         n: 0,
         more: true,
@@ -468,26 +263,20 @@ pub fn at_front() -> Windowed
 
 // The next window of the input, which starts where the last one was used up to: what it prints, and how far the replay came.
 pub fn play_window(w: Windowed, window: &[u8], ends: bool, out: &mut [u8]) -> Windowed
-    ensures { WindowIs w.loaded w.state window.now ends out.old out.new result }
+    ensures { WindowIs w.state window.now ends out.old out.new result }
 {
-    let state = w.state;
-    if w.loaded {
-        return play_records(state, window, ends, out);
+    match w.state {
+        Some(state) => play_records(state, window, ends, out),
+        None => play_front(window, ends, out),
     }
-    play_front(state, window, ends, out)
 }
 
 // The bytes of a window from `at` to n, as far as they are there, go to its front: how many they are.
 pub fn to_front(window: &mut [u8], at: usize, n: usize) -> usize
     ensures { Fronted window.old at n window.new result }
 {
-    let end = fewer(n, window.len());
-    let from = fewer(at, end);
-    let held = end - from;
-    let mut i = 0;
-    while i < held {
-        window[i] = window[from + i];
-        i += 1;
-    }
-    held
+    let end = n.min(window.len());
+    let from = at.min(end);
+    window.copy_within(from..end, 0);
+    end - from
 }

@@ -8,11 +8,11 @@ ghost use Rattle.securon.specs.Sets.{set_room, empty, only, ◌∪◌, ◌⊆◌
 pub const ROOM: usize = 64;
 
 // A securon, by its number.
-#[derive(Clone, Copy)]
+#[derive(Clone, Copy, Debug, PartialEq, Eq, PartialOrd, Ord)]
 pub struct Securon(pub u8);
 
 // A level, d(s) in 002: kept apart from securons, so that neither is taken for the other.
-#[derive(Clone, Copy)]
+#[derive(Clone, Copy, Debug, PartialEq, Eq, PartialOrd, Ord)]
 pub struct Level(pub u8);
 
 impl Securon {
@@ -20,13 +20,6 @@ impl Securon {
 }
 
 impl Level {
-    // Whether this level is the larger: what "over" and "under" of two levels ask.
-    pub fn over(self, other: Level) -> bool
-        ensures { (result ≡ true) ↔ (other.0 < self.0) }
-    {
-        other.0 < self.0
-    }
-
     // The level of a child.
     pub fn next(self) -> Level
         requires { self.0 < set_room }
@@ -77,10 +70,8 @@ impl SecuronSet {
         ensures { marked result.has ≐ marked self.has ∪ marked more.has }
     {
         let mut r = self;
-        for k in 0..ROOM {
-            if more.has[k] {
-                r.has[k] = true;
-            }
+        for (k, mark) in r.has.iter_mut().enumerate() {
+            *mark |= more.has[k];
         }
         r
     }
@@ -89,29 +80,15 @@ impl SecuronSet {
     pub fn part(self, whole: SecuronSet) -> bool
         ensures { (result ≡ true) ↔ (marked self.has ⊆ marked whole.has) }
     {
-        let mut ok = true;
-        for k in 0..ROOM {
-            if self.has[k] {
-                if !whole.has[k] {
-                    ok = false;
-                }
-            }
-        }
-        ok
+        let pairs = self.has.iter().zip(&whole.has);
+        pairs.fold(true, |ok, (here, there)| ok & (!*here | *there))
     }
 
-    // Whether the two share no member.
+    // Whether the two share no member. As in `part`, a flag and no early return.
     pub fn apart(self, other: SecuronSet) -> bool
         ensures { (result ≡ true) ↔ Apart (marked self.has) (marked other.has) }
     {
-        let mut none = true;
-        for k in 0..ROOM {
-            if other.has[k] {
-                if self.has[k] {
-                    none = false;
-                }
-            }
-        }
-        none
+        let pairs = self.has.iter().zip(&other.has);
+        pairs.fold(true, |none, (here, there)| none & !(*here & *there))
     }
 }

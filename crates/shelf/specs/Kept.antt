@@ -3,7 +3,6 @@
 use Rattle.std.specs.Prelude.{◌≡◌, refl, Bool, true, List, ℕ, ◌+◌, ◌*◌, ◌-◌, ◌<◌, ◌≤◌, ◌%◌, length, get_or, take, drop, set}
 use Rattle.std.proofs.Common.{sym, ap, ◌∙◌, subst, inl, arith, eq-eqb, ne_eqb, length-set, get_or-set_same, get_or-set_other}
 use Rattle.std.proofs.Math.Decide.{ℕ_discrete}
-use Rattle.expression.specs.declared.Kind.{Kind}
 use Rattle.expression.specs.declared.Kind.TheVariants.{Privilege, Protection}
 use Rattle.expression.specs.Bytes.{longest, InOrder}
 use Rattle.shelf.specs.Shelf.{HasPlaces, AllZero, ZeroShelf, stored_at, put_bytes}

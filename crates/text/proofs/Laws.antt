@@ -3,19 +3,21 @@ use mathlib.Core.Path.{◌≡◌, refl, sym, ap, ◌∙◌, subst}
 use mathlib.Core.Bool.{Bool, true, false, ◌&&◌}
 use mathlib.Core.Option.{Option, none, some}
 use mathlib.Core.List.{List}
-use Prim.Native.Nat.{ℕ, ◌+◌, ◌-◌, ◌*◌, ◌<◌, ◌≤◌}
+use Prim.Native.Nat.{ℕ, zero, suc, ◌+◌, ◌-◌, ◌*◌, ◌<◌, ◌≤◌}
 use native.Mathlib.Decide.{dec_lt}
 use native.Mathlib.Numerals.{add-one}
 use native.Mathlib.Omega.{arith}
 use lib.Dec.{ltb, eqb}
-use lib.ListN.{length, get_or, take}
+use lib.ListN.{length, get_or, take, drop}
 use lib.Seq.{take-suc}
 use borrow.Author.Tests.{ltb-true, lt-ltb, le-ltb, eqb-true, eq-eqb}
-use Rattle.text.specs.Classes.{class_of, value, pick, digit, space}
+use Rattle.std.specs.List.{prefix_len}
+use Rattle.std.proofs.lemmas.List.{get_or-drop, length-drop}
+use Rattle.std.proofs.lemmas.List.Sums.{prefix_len-le-length, prefix_len_passes, prefix_len_stops}
+use Rattle.text.specs.Classes.{class_of, value, pick, digit, space, is_space}
 use Rattle.text.specs.Numbers.{both, bounds, low}
 use Rattle.text.specs.Scan.{Left, Part, State, digits, counted, below, grows, move, step, ends, Reached, by_byte, Stays, Reaches, next_of, end_of}
-use Rattle.text.specs.Reader.{class_at, stands_at, grows_at, Skipped, Digit, Counts, Needs}
-use Rattle.text.specs.declared.Reading.{Reading}
+use Rattle.text.specs.Reader.{class_at, grows_at, Skipped, Needs}
 
 module _ (s : List ℕ) where
   -- ---- what stands at a place
@@ -27,19 +29,6 @@ module _ (s : List ℕ) where
 
   pub class-not : (p c : ℕ) → p < length s → class_at s p c ≡ false → eqb (class_of (get_or s p 0)) c ≡ false
   class-not p c h e = sym (ap (λ (b : Bool). b && eqb (class_of (get_or s p 0)) c) (lt-ltb p (length s) h)) ∙ e
-
-  module _ (g : Reading) (c : ℕ) (b : Bool) (eb : b ≡ stands_at s g c) where
-    pub stands-ok : b ≡ true → g.ok ≡ true
-    stands-ok y = (both g.ok (class_at s g.at c) (sym eb ∙ y)).0
-
-    pub stands-class : b ≡ true → class_at s g.at c ≡ true
-    stands-class y = (both g.ok (class_at s g.at c) (sym eb ∙ y)).1
-
-    pub stands-in : b ≡ true → g.at < length s
-    stands-in y = class-in g.at c (stands-class y)
-
-    pub stands-not : b ≡ false → g.ok ≡ true → class_at s g.at c ≡ false
-    stands-not n ok = sym (ap (λ (z : Bool). z && class_at s g.at c) ok) ∙ sym eb ∙ n
 
   -- ---- from state to state
   pub step-on : (k : ℕ) (t t' : State) → k < length s → step t (get_or s k 0) ≡ some t' → Reaches s k (some t) → Reaches s (k + 1) (some t')
@@ -70,11 +59,9 @@ module _ (s : List ℕ) where
   at-like false k t t' f r = r
 
   -- a sign that does not stand there stops the scan
-  pub at-stop : (ok : Bool) (k c : ℕ) (t t' : State) → (ok && class_at s k c) ≡ false
-      → (ok ≡ true → Needs s k c t t') → Reaches s k (pick ok (some t) none) → Reaches s k none
-  at-stop true k c t t' e n r =
-      like k (some t) none (λ h. (n refl).byte h ∙ ap (λ (b : Bool). pick b (some t') none) (class-not k c h e)) (λ h. (n refl).end h) r
-  at-stop false k c t t' e n r = r
+  pub at-stop : (k c : ℕ) (t t' : State) → class_at s k c ≡ false → Needs s k c t t' → Reaches s k (some t) → Reaches s k none
+  at-stop k c t t' e n r =
+      like k (some t) none (λ h. n.byte h ∙ ap (λ (b : Bool). pick b (some t') none) (class-not k c h e)) n.end r
 
   -- one that stands there takes it on
   there : (k c : ℕ) (t' : State) → class_at s k c ≡ true → pick (eqb (class_of (get_or s k 0)) c) (some t') none ≡ some t'
@@ -94,108 +81,100 @@ module _ (s : List ℕ) where
   }
 
   -- ---- spaces
-  pub record Skips (at p : ℕ) : Type 0 where
-    pub on : at ≤ p
-    pub within : p ≤ length s
-    pub blank : (k : ℕ) → at ≤ k → k < p → class_of (get_or s k 0) ≡ space
-    pub moves : (t : State) → Stays t → Reaches s at (some t) → Reaches s p (some t)
+  -- n spaces from the place p on
+  over-spaces : (p n : ℕ) → p + n ≤ length s → ((k : ℕ) → p ≤ k → k < p + n → class_of (get_or s k 0) ≡ space)
+      → (t : State) → Stays t → Reaches s p (some t) → Reaches s (p + n) (some t)
+  over-spaces p zero h f t st r = subst (λ (k : ℕ). Reaches s k (some t)) (omega arith) r
+  over-spaces p (suc n) h f t st r =
+      subst (λ (k : ℕ). Reaches s k (some t)) (omega arith)
+      (step-on (p + n) t t (omega arith)
+      (ap (λ (x : ℕ). move t x (value (get_or s (p + n) 0))) (f (p + n) (omega arith) (omega arith)) ∙ st _)
+      (over-spaces p n (omega arith) (λ k l u. f k l (omega arith)) t st r))
 
-  pub skip-start : (at : ℕ) → at ≤ length s → Skips at at
-  skip-start at h = record { on = omega arith; within = h; blank = λ k l u. absurd (omega arith); moves = λ t st r. r }
+  pub skipped : (p n : ℕ) → p ≤ length s → n ≡ prefix_len is_space (drop p s) → Skipped s p (p + n)
+  skipped p n h e =
+      let l : n ≤ length s - p = omega (arith, prefix_len-le-length is_space (drop p s), length-drop p s) in record {
+        on = omega arith;
+        within = omega arith;
+        clear = clear (dec_lt (p + n) (length s));
+        blank = blank;
+        moves = over-spaces p n (omega arith) blank;
+      }
+    where
+      blank : (k : ℕ) → p ≤ k → k < p + n → class_of (get_or s k 0) ≡ space
+      blank k m u =
+          let i : p + (k - p) ≡ k = omega arith in
+          let j : k - p < prefix_len is_space (drop p s) = omega arith in
+          eqb-true _ space
+          (ap (λ (z : ℕ). is_space (get_or s z 0)) (sym i) ∙ ap is_space (sym (get_or-drop p s (k - p) 0)) ∙ prefix_len_passes is_space (drop p s) (k - p) 0 j)
 
-  module _ (at p : ℕ) (k : Skips at p) (b : Bool) (e : b ≡ class_at s p space) where
-    pub skip-in : b ≡ true → p < length s
-    skip-in y = class-in p space (sym e ∙ y)
-
-    pub skip-end : b ≡ false → Skipped s at p
-    skip-end n = record { on = k.on; within = k.within; clear = sym e ∙ n; blank = k.blank; moves = k.moves }
-
-    pub skip-more : b ≡ true → Skips at (p + 1)
-    skip-more y = let h = skip-in y in record {
-      on = omega (arith, k.on);
-      within = omega arith;
-      blank = λ j l u. go j l u (dec_lt j p);
-      moves = λ t st r. step-on p t t h (ap (λ (x : ℕ). move t x (value (get_or s p 0))) (class-is p space (sym e ∙ y)) ∙ st _) (k.moves t st r);
-    }
-      where
-        go : (j : ℕ) → at ≤ j → j < p + 1 → Dec (j < p) → class_of (get_or s j 0) ≡ space
-        go j l u (yes q) = k.blank j l q
-        go j l u (no q) = subst (λ (z : ℕ). class_of (get_or s z 0) ≡ space) (omega arith) (class-is p space (sym e ∙ y))
+      clear : Dec (p + n < length s) → class_at s (p + n) space ≡ false
+      clear (no q) = rw (le-ltb (p + n) (length s) (omega arith)) refl
+      clear (yes q) =
+          let j : prefix_len is_space (drop p s) < length (drop p s) = omega (arith, length-drop p s) in
+          rw (lt-ltb (p + n) (length s) q)
+          (ap (λ (z : ℕ). is_space (get_or s (p + z) 0)) e ∙ ap is_space (sym (get_or-drop p s (prefix_len is_space (drop p s)) 0))
+          ∙ prefix_len_stops is_space (drop p s) 0 j)
 
   -- ---- numbers
-  pub the-digit : (p : ℕ) → class_at s p digit ≡ true → (48 ≤ get_or s p 0) × Digit s p (get_or s p 0 - 48)
+  pub the-digit : (p : ℕ) → class_at s p digit ≡ true → (48 ≤ get_or s p 0) × (get_or s p 0 - 48 ≡ value (get_or s p 0)) × (value (get_or s p 0) < 10)
   unfolding value
-  the-digit p e = let h = bounds _ (class-is p digit e) in (h.0, record { is = refl; low = omega arith })
+  the-digit p e = let h = bounds _ (class-is p digit e) in (h.0, refl, omega arith)
 
   module _ (at : ℕ) where
     pub record Counting (n p : ℕ) : Type 0 where
       pub on : at < p
       pub within : p ≤ length s
-      pub small : n < below
       pub moves : (t : State) (q : Part) (l : Left)
           → step t (get_or s at 0) ≡ some (digits q (value (get_or s at 0)) l) → Reaches s at (some t)
           → Reaches s p (some (digits q n l))
 
-    pub count-first : class_at s at digit ≡ true → (d : ℕ) → Digit s at d → Counting d (at + 1)
-    count-first e d v = let h = class-in at digit e in record {
+    pub count-first : class_at s at digit ≡ true → Counting (value (get_or s at 0)) (at + 1)
+    count-first e = let h = class-in at digit e in record {
       on = omega arith;
       within = omega arith;
-      small = omega (arith, v.low);
-      moves = λ t q l f r. subst (λ (z : ℕ). Reaches s (at + 1) (some (digits q z l))) (sym v.is) (step-on at t _ h f r);
+      moves = λ t q l f r. step-on at t _ h f r;
     }
 
-    module _ (n p : ℕ) (k : Counting n p) (b : Bool) (e : b ≡ grows_at s p n) where
-      pub grow-in : b ≡ true → (p < length s) × (grows n (class_of (get_or s p 0)) (value (get_or s p 0)) ≡ true)
-      grow-in y = let w = both (ltb p (length s)) (grows n (class_of (get_or s p 0)) (value (get_or s p 0))) (sym e ∙ y) in (ltb-true _ _ w.0, w.1)
+    pub count-more : (n p : ℕ) → Counting n p → 0 < n → n < 10 → class_at s p digit ≡ true → Counting (10 * n + value (get_or s p 0)) (p + 1)
+    count-more n p k z u e =
+        let h = class-in p digit e in
+        let w = low _ (class-is p digit e) in
+        record {
+          on = omega (arith, k.on);
+          within = omega arith;
+          moves =
+              λ t q l f r. step-on p (digits q n l) _ h
+              (unfold move in rw (class-is p digit e, lt-ltb 0 n z, lt-ltb (10 * n + value (get_or s p 0)) below (omega arith)))
+              (k.moves t q l f r);
+        }
 
-      pub grow-digit : b ≡ true → class_at s p digit ≡ true
-      grow-digit y =
-          let w = grow-in y in
-          rw (lt-ltb p (length s) w.0) (both (eqb (class_of (get_or s p 0)) digit) (ltb 0 n && ltb (10 * n + value (get_or s p 0)) below) w.1).0
-
-      pub count-more : b ≡ true → (d : ℕ) → Digit s p d → Counting (10 * n + d) (p + 1)
-      count-more y d v =
-          let w = grow-in y in
-          let h : p < length s = w.0 in
-          let g = (both (eqb (class_of (get_or s p 0)) digit) (ltb 0 n && ltb (10 * n + value (get_or s p 0)) below) w.1).1 in
-          let m : 10 * n + value (get_or s p 0) < below = ltb-true _ _ (both (ltb 0 n) (ltb (10 * n + value (get_or s p 0)) below) g).1 in
-          record {
-            on = omega (arith, k.on);
-            within = omega arith;
-            small = omega (arith, v.is);
-            moves =
-                λ t q l f r. subst (λ (z : ℕ). Reaches s (p + 1) (some (digits q (10 * n + z) l))) (sym v.is)
-                (step-on p (digits q n l) _ h (unfold move in rw w.1) (k.moves t q l f r));
-          }
-
-      pub count-end : b ≡ false → (m : ℕ) → m ≡ n → Counts s at (record { n = m; at = p })
-      count-end z m q = record {
-        on = k.on;
-        within = k.within;
-        moves =
-            λ t q' l f r. subst (λ (x : ℕ). Reaches s p (some (counted q' x l))) (sym q)
-            (like p (some (digits q' n l)) (some (counted q' n l)) (λ h. (unfold move in rw (no_more h))) (λ h. (unfold ends in refl))
-            (k.moves t q' l f r));
-      }
-        where
-          no_more : p < length s → grows n (class_of (get_or s p 0)) (value (get_or s p 0)) ≡ false
-          no_more h = sym (ap (λ (b : Bool). b && grows n (class_of (get_or s p 0)) (value (get_or s p 0))) (lt-ltb p (length s) h)) ∙ sym e ∙ z
-
-  -- ---- the test of a longer number
-  module _ (p n : ℕ) where
-    pub grows-is : class_at s p digit ≡ true → 0 < n → (d : ℕ) → Digit s p d → ltb (10 * n + d) below ≡ grows_at s p n
-    grows-is e h d v = rw (lt-ltb p (length s) (class-in p digit e), class-is p digit e, lt-ltb 0 n h) (ap (λ (z : ℕ). ltb (10 * n + z) below) v.is)
-
-    pub grows-zero : n ≤ 0 → false ≡ grows_at s p n
-    grows-zero h = rw (le-ltb 0 n h) (sym (no-no (ltb p (length s)) (eqb (class_of (get_or s p 0)) digit)))
+    -- where no digit makes it longer, the number is whole
+    pub count-end : (n p : ℕ) → Counting n p → grows_at s p n ≡ false → (t : State) (q : Part) (l : Left)
+        → step t (get_or s at 0) ≡ some (digits q (value (get_or s at 0)) l) → Reaches s at (some t)
+        → Reaches s p (some (counted q n l))
+    count-end n p k e t q l f r =
+        like p (some (digits q n l)) (some (counted q n l)) (λ h. (unfold move in rw (no_more h))) (λ h. (unfold ends in refl)) (k.moves t q l f r)
       where
-        no-no : (a b : Bool) → (a && (b && false)) ≡ false
-        no-no true true = refl
-        no-no true false = refl
-        no-no false b = refl
+        no_more : p < length s → grows n (class_of (get_or s p 0)) (value (get_or s p 0)) ≡ false
+        no_more h = sym (ap (λ (b : Bool). b && grows n (class_of (get_or s p 0)) (value (get_or s p 0))) (lt-ltb p (length s) h)) ∙ e
 
-    pub grows-not : class_at s p digit ≡ false → false ≡ grows_at s p n
-    grows-not e = sym (go (ltb p (length s)) (eqb (class_of (get_or s p 0)) digit) (ltb 0 n && ltb (10 * n + value (get_or s p 0)) below) e)
+  module _ (p n : ℕ) where
+    no-no : (a b : Bool) → (a && (b && false)) ≡ false
+    no-no true true = refl
+    no-no true false = refl
+    no-no false b = refl
+
+    pub zero-grows-not : n ≤ 0 → grows_at s p n ≡ false
+    zero-grows-not h = rw (le-ltb 0 n h) (no-no (ltb p (length s)) (eqb (class_of (get_or s p 0)) digit))
+
+    pub two-grow-not : 10 ≤ n → grows_at s p n ≡ false
+    two-grow-not h =
+        rw (lt-ltb 0 n (omega arith), le-ltb (10 * n + value (get_or s p 0)) below (omega arith))
+        (no-no (ltb p (length s)) (eqb (class_of (get_or s p 0)) digit))
+
+    pub no-digit-grows-not : class_at s p digit ≡ false → grows_at s p n ≡ false
+    no-digit-grows-not e = go (ltb p (length s)) (eqb (class_of (get_or s p 0)) digit) (ltb 0 n && ltb (10 * n + value (get_or s p 0)) below) e
       where
         go : (a b d : Bool) → (a && b) ≡ false → (a && (b && d)) ≡ false
         go true b d e = ap (λ (z : Bool). z && d) e

@@ -1,5 +1,3 @@
 -- What the proofs of several functions use.
-mod Shelf
 mod Laws
 mod Levels
-mod Answering

@@ -1,5 +1,8 @@
 -- The class of a byte (01, "In text": each of the 256 byte values has one class: digit, space, one of & | ( ) [ ] ., or other). Definitions only.
-use Rattle.std.specs.Prelude.{Bool, true, false, ◌&&◌, ◌≡◌, List, ℕ, ◌-◌, ◌<◌, leb, eqb, length, get_or}
+use Rattle.std.specs.Prelude.{Bool, true, false, ◌&&◌, ℕ, ◌-◌, leb, eqb}
+use Rattle.text.specs.declared.classes.Class.{Class}
+use Rattle.text.specs.declared.classes.Class.TheVariants.{Digit, Space, Ampersand, Bar, LeftParenthesis, RightParenthesis}
+use Rattle.text.specs.declared.classes.Class.TheVariants.{LeftBracket, RightBracket, Dot, Other}
 
 -- the classes, by number
 abbrev pub digit : ℕ
@@ -49,11 +52,22 @@ class_of x =
     (pick (eqb x 93) rbra
     (pick (eqb x 46) dot other))))))))
 
--- the class of each of the 256 byte values
-pub record Tabled (t : List ℕ) : Type 0 where
-  pub long : length t ≡ 256
-  pub each : (x : ℕ) → x < 256 → get_or t x 0 ≡ class_of x
+-- the number of a class of the code
+abbrev pub class_number : Class → ℕ
+class_number Digit = digit
+class_number Space = space
+class_number Ampersand = amp
+class_number Bar = bar
+class_number LeftParenthesis = lpar
+class_number RightParenthesis = rpar
+class_number LeftBracket = lbra
+class_number RightBracket = rbra
+class_number Dot = dot
+class_number Other = other
 
 -- what a digit counts
 unfoldable pub value : ℕ → ℕ
 value x = x - 48
+
+abbrev pub is_space : ℕ → Bool
+is_space x = eqb (class_of x) space

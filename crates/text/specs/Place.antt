@@ -6,7 +6,7 @@ use Rattle.answer.specs.Faults.{CanBegin, FaultAt}
 use Rattle.expression.specs.Expression.{Expr}
 use Rattle.expression.specs.Bytes.{bytes}
 use Rattle.text.specs.Classes.{class_of, value, space}
-use Rattle.text.specs.Text.{Tokens, end, spaced, Says, TextOf, blank, whole, Legal}
+use Rattle.text.specs.Text.{Tokens, spaced, Says, TextOf, blank, whole, Legal}
 use Rattle.text.specs.Scan.{Frame, Left, Part, alone, from, upto, State, want, bound, digits, counted, dotted, done}
 use Rattle.text.specs.Scan.{fresh, move, step, ends, go_on, scan, Reached, at_first, by_byte, Reaches}
 use Rattle.text.specs.Complete.{on, complete}

@@ -1,6 +1,7 @@
 -- Pieces of the input, one after another, and then its end print what the whole input prints, which is one thing. Assumes nothing.
 use Rattle.std.specs.Prelude.{◌≡◌, refl, List, [], ◌∷◌, ◌++◌, ℕ, length, take}
 use Rattle.std.proofs.Common.{sym, ap, ap₂, ◌∙◌, subst, append_assoc, append-nil, inl, inr, take_at}
+use Rattle.lines.specs.declared.begun.Begun.{Begun}
 use Rattle.lines.specs.Lines.{Unended, Held}
 use Rattle.lines.specs.Laws.{unended-append, has_end, same-part, same_rest, none-held}
 use Rattle.turn.specs.Printed.{Printed, PrintsLast, PrintsLines, last_line, first-line, PiecePrints, line-goes-on, line-ends}
@@ -49,20 +50,20 @@ then_lines {begun} rest {y} h (line-ends {line = line} {rest = r} {printed = pri
 pub front-is : (lines rest : List ℕ) {after : List ℕ} {r : ℕ} → r ≡ length lines → after ≡ lines ++ rest → take r after ≡ lines
 front-is lines rest {r = r} c e = ap (take r) e ∙ take_at lines rest r (sym c)
 
-blocks-after : {n : ℕ} {kept input written begun : List ℕ} → Blocks n kept input written → Held n kept begun → Unended begun
-    → PrintsLines (begun ++ input) written
-blocks-after {begun = begun} (last_block {after = after} {r} a) h u =
-    subst (λ (z : List ℕ). PrintsLines z (take r after)) (sym (append-nil begun))
-    (last_line u (subst (PrintsLast begun) (sym (front-is a.printed _ a.count a.filled)) (a.prints begun h)))
-blocks-after {begun = begun} (next-block {piece = piece} {rest = rest} {written} {r} a more) h u =
+blocks-after : {begun : Begun} {input written w : List ℕ} → Blocks begun input written → Held begun.n begun.bytes w → Unended w
+    → PrintsLines (w ++ input) written
+blocks-after {w = w} (last_block {after = after} {r} a) h u =
+    subst (λ (z : List ℕ). PrintsLines z (take r after)) (sym (append-nil w))
+    (last_line u (subst (PrintsLast w) (sym (front-is a.printed _ a.count a.filled)) (a.prints w h)))
+blocks-after {w = w} (next-block {piece = piece} {rest = rest} {written} {r} a more) h u =
     let f = a.front in
-    let (left, p, k) = f.prints begun h in
-    subst (λ (z : List ℕ). PrintsLines (begun ++ (take r.used piece ++ rest)) (z ++ written)) (sym (front-is f.lines _ f.count f.filled))
+    let (left, p, k) = f.prints w h in
+    subst (λ (z : List ℕ). PrintsLines (w ++ (take r.used piece ++ rest)) (z ++ written)) (sym (front-is f.lines _ f.count f.filled))
     (then_lines rest u p (blocks-after more k (left-unended u p)))
 
 -- from the start of the input on, where no line is begun, to its end: the blocks are what the whole input prints
-pub blocks-print-the-input : {kept input written : List ℕ} → Blocks 0 kept input written → PrintsLines input written
-blocks-print-the-input {kept} b = blocks-after b (none-held kept) tt
+pub blocks-print-the-input : {begun : Begun} {input written : List ℕ} → begun.n ≡ 0 → Blocks begun input written → PrintsLines input written
+blocks-print-the-input {begun} e b = blocks-after b (subst (λ (k : ℕ). Held k begun.bytes []) (sym e) (none-held begun.bytes)) tt
 
 -- ---- one thing is printed
 one_last : {w x y : List ℕ} → PrintsLast w x → PrintsLast w y → x ≡ y

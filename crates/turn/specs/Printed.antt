@@ -1,10 +1,11 @@
 -- What the program prints: for a line of its input, for a piece of it, and for all of it. Definitions only.
-use Rattle.std.specs.Prelude.{◌≡◌, cond, List, [], ◌∷◌, ◌++◌, ◌⊎◌, eqb, ℕ, ◌+◌, ◌<◌, ◌≤◌, length, take, drop}
+use Rattle.std.specs.Prelude.{◌≡◌, List, [], ◌∷◌, ◌++◌, ◌⊎◌, ℕ, ◌+◌, ◌<◌, ◌≤◌, length, take, drop}
 use Rattle.answer.specs.declared.Answer.{Answer}
 use Rattle.answer.specs.Answers.{Decides, Granted}
 use Rattle.expression.specs.Bytes.{longest}
 use Rattle.text.specs.Text.{TextOf}
 use Rattle.text.specs.Turn.{text_conditions, text_grants}
+use Rattle.lines.specs.declared.begun.Begun.{Begun}
 use Rattle.lines.specs.Lines.{Line, Held, Unended}
 use Rattle.turn.specs.declared.Answered.{Answered}
 
@@ -19,15 +20,11 @@ pub record Printed (w line : List ℕ) : Type 0 where
   pub line-is : Line answer bytes line
 
 -- for whatever line of input is held, its printed line fills the first r bytes of an output; the rest keeps its content
-pub record PrintsAnswer (n : ℕ) (kept before after : List ℕ) (r : ℕ) : Type 0 where
+pub record PrintsAnswer (begun : Begun) (before after : List ℕ) (r : ℕ) : Type 0 where
   pub line : List ℕ
-  pub prints : (w : List ℕ) → Held n kept w → Printed w line
+  pub prints : (w : List ℕ) → Held begun.n begun.bytes w → Printed w line
   pub fits : r ≤ length after
   pub filled : after ≡ line ++ drop r before
-
--- how many bytes were made: the place of a grant, else none
-abbrev pub made_by : Answer → ℕ
-made_by a = cond (eqb a.number 0) a.place 0
 
 -- ---- the whole input
 -- a last line without a line end is printed too, unless it is empty
@@ -55,29 +52,30 @@ most_printed = 186
 
 -- the first bytes of a piece were answered, as many as used: whatever line begun is held, what they print fills the front of the output, and what they
 -- leave is held; the rest of the output keeps its content
-pub record AnswersFront (piece : List ℕ) (n : ℕ) (kept before : List ℕ) (r : Answered) (line after : List ℕ) : Type 0 where
+pub record AnswersFront (piece : List ℕ) (begun : Begun) (before : List ℕ) (r : Answered) (next : Begun) (after : List ℕ) : Type 0 where
   pub lines : List ℕ
-  pub prints : (begun : List ℕ) → Held n kept begun → (left : List ℕ) × PiecePrints begun (take r.used piece) left lines × Held r.n line left
+  pub prints : (w : List ℕ) → Held begun.n begun.bytes w
+      → (left : List ℕ) × PiecePrints w (take r.used piece) left lines × Held next.n next.bytes left
   pub within : r.used ≤ length piece
   pub count : r.printed ≡ length lines
   pub filled : after ≡ lines ++ drop r.printed before
 
 -- all of the piece was answered, unless less room than for one more printed line was left
-pub record AnswersPiece (piece : List ℕ) (n : ℕ) (kept before : List ℕ) (r : Answered) (line after : List ℕ) : Type 0 where
-  pub front : AnswersFront piece n kept before r line after
+pub record AnswersPiece (piece : List ℕ) (begun : Begun) (before : List ℕ) (r : Answered) (next : Begun) (after : List ℕ) : Type 0 where
+  pub front : AnswersFront piece begun before r next after
   pub stops : r.used < length piece → length after < r.printed + most_printed
 
 -- the input has ended: whatever last line is held, what it prints fills the first r bytes of the output; the rest keeps its content
-pub record AnswersLast (n : ℕ) (kept before after : List ℕ) (r : ℕ) : Type 0 where
+pub record AnswersLast (begun : Begun) (before after : List ℕ) (r : ℕ) : Type 0 where
   pub printed : List ℕ
-  pub prints : (w : List ℕ) → Held n kept w → PrintsLast w printed
+  pub prints : (w : List ℕ) → Held begun.n begun.bytes w → PrintsLast w printed
   pub count : r ≡ length printed
   pub filled : after ≡ printed ++ drop r before
 
 -- ---- what comes of a run
--- with n bytes kept of the line begun before it, an input was answered, piece by piece, and then its end: what each printed, one block after another,
--- is what was written
-pub data Blocks : ℕ → List ℕ → List ℕ → List ℕ → Type 0 where
-  last_block : {n : ℕ} {kept before after : List ℕ} {r : ℕ} → AnswersLast n kept before after r → Blocks n kept [] (take r after)
-  next-block : {n : ℕ} {kept piece before line after rest written : List ℕ} {r : Answered} → AnswersPiece piece n kept before r line after
-      → Blocks r.n line rest written → Blocks n kept (take r.used piece ++ rest) (take r.printed after ++ written)
+-- with the line begun before it, an input was answered, piece by piece, and then its end: what each printed, one block after another, is what was
+-- written
+pub data Blocks : Begun → List ℕ → List ℕ → Type 0 where
+  last_block : {begun : Begun} {before after : List ℕ} {r : ℕ} → AnswersLast begun before after r → Blocks begun [] (take r after)
+  next-block : {begun next : Begun} {piece before after rest written : List ℕ} {r : Answered} → AnswersPiece piece begun before r next after
+      → Blocks next rest written → Blocks begun (take r.used piece ++ rest) (take r.printed after ++ written)

@@ -1,21 +1,52 @@
-// Lines of output: numbers, and an answer at a line's end.
+// What a call tells, and the lines of output.
 use answer::Answer;
-use std::io;
+use securon::SecuronSet;
 use std::io::Write;
+use std::{fmt, io};
 
-// A number after a space.
-pub(crate) fn write_number<W: Write>(out: &mut W, number: usize) -> io::Result<()> {
-    write!(out, " {number}")
+#[derive(Clone, Copy)]
+pub(crate) enum Told {
+    Answer(Answer),
+    Members(SecuronSet),
+    Met(bool),
+    // The numbers of five requests, and of five others.
+    Numbers([u8; 5], [u8; 5]),
 }
 
-// The case's name, the number and the place. A call without a name writes nothing: it makes a state.
-pub(crate) fn write_answer<W: Write>(out: &mut W, name: &[u8], answer: Answer) -> io::Result<()> {
-    if name.len() == 0 {
-        return Ok(());
+impl fmt::Display for Told {
+    fn fmt<W: fmt::Write>(&self, f: &mut fmt::Formatter<W>) -> fmt::Result {
+        match self {
+            Told::Answer(answer) => {
+                let number = answer.number;
+                let place = answer.place;
+                write!(f, " {number} {place}")
+            }
+            Told::Members(set) => {
+                for (k, has) in set.has.iter().enumerate() {
+                    if *has {
+                        write!(f, " {k}")?;
+                    }
+                }
+                Ok(())
+            }
+            Told::Met(true) => f.write_str(" met"),
+            Told::Met(false) => f.write_str(" not met"),
+            Told::Numbers(some, others) => {
+                for number in some {
+                    write!(f, " {number}")?;
+                }
+                f.write_str(";")?;
+                for number in others {
+                    write!(f, " {number}")?;
+                }
+                Ok(())
+            }
+        }
     }
+}
+
+// The line of a case: its name, and what its call tells.
+pub(crate) fn write_line<W: Write>(out: &mut W, name: &[u8], told: &Told) -> io::Result<()> {
     out.write_all(name)?;
-    out.write_all(b":")?;
-    write_number(out, answer.number as usize)?;
-    write_number(out, answer.place)?;
-    out.write_all(b"\n")
+    writeln!(out, ":{told}")
 }

@@ -1,13 +1,17 @@
--- `door::load_record` meets its contract: the bytes are the record of a load, or they are not. Assumes nothing.
-use Rattle.door.specs.Calls.{alone-inside, load-none, load-done}
+-- `load_record` meets its contract: the bytes are the record of a load, or they are not. Assumes nothing.
+use Rattle.door.specs.Calls.{alone-inside, load-none, load-other, load-done}
 use Rattle.door.proofs.load_record.Goals as goal
 
-pub returns-then-parted-ne-LOAD : goal.returns-then-parted-ne-LOAD
-returns-then-parted-ne-LOAD c = load-none _ _ _ c.read_alone-parted.ensures c.if-parted-ne-LOAD.true
+pub returns-in_default : goal.returns-in_default
+returns-in_default c = load-none _ _ _ c.in_default.ensures c.of.ensures
 
-pub slice_bounds-load_box-end : goal.slice_bounds-load_box-end
-slice_bounds-load_box-end c = (alone-inside _ _ c.read_alone-parted.ensures 0).1
+pub returns-then-found-ne-LOAD : goal.returns-then-found-ne-LOAD
+returns-then-found-ne-LOAD c = load-other _ _ _ _ c.in-Some.ensures c.if-found-ne-LOAD.true c.of-then-found-ne-LOAD.ensures
+
+pub field_of-requires : goal.field_of-requires
+field_of-requires c = alone-inside _ _ c.in-Some.ensures 0
 
 pub returns : goal.returns
 returns c =
-    load-done _ _ _ c.read_alone-parted.ensures c.if-parted-ne-LOAD.false _ c.load_box.ensures
+    let loads = rw c.field_of.ensures at c.load_box.ensures.loads in
+    load-done _ _ _ _ c.in-Some.ensures c.if-found-ne-LOAD.false _ loads

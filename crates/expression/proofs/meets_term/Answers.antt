@@ -1,43 +1,42 @@
 -- `expression::meets_term` meets its contract: the first byte says which term it is. Assumes nothing.
-use mathlib.Core.Path.{◌≡◌, refl, sym, subst}
+use mathlib.Core.Path.{◌≡◌, refl, ap, sym, subst}
 use mathlib.Core.Bool.{true}
 use mathlib.Core.Logic.{◌↔◌}
 use Prim.Native.Nat.{ℕ}
 use native.Mathlib.Omega.{arith}
 use Rattle.securon.specs.Sets.{marked}
 use Rattle.logic.specs.Iff.{iff-trans}
+use Rattle.tree.specs.Grown.{Leveled}
 use Rattle.expression.specs.Expression.{Term, term_set}
 use Rattle.expression.proofs.Fronts.{is_one, is-range, term-named, term-long}
 use Rattle.expression.proofs.meets_term.Goals as goal
 
 pub bounds-rest-1 : goal.bounds-rest-1
-bounds-rest-1 c = (term-named c.requires.1).0
+bounds-rest-1 c = (term-named c.requires).0
 
-pub bounds-rest-0 : goal.bounds-rest-0
-bounds-rest-0 c = omega (arith, term-named c.requires.1)
+pub prove-unreachable-requires : goal.prove-unreachable-requires
+prove-unreachable-requires c = omega (arith, term-named c.requires, ap (λ (v : Leveled). v.tree.n) c.g.view_is)
 
 pub holds-requires : goal.holds-requires
-holds-requires c = let p = c.requires in omega (arith, term-named p.1, p.0.tree.count)
+holds-requires c = omega (arith, c.g.invariant.tree.count)
 
 pub returns-then-rest-eq-ONE : goal.returns-then-rest-eq-ONE
 returns-then-rest-eq-ONE c = λ x tail e.
     let a = c.args in
-    subst (λ (y : Term). (c.holds.result ≡ true) ↔ ((u : ℕ) × term_set a.t y u × marked a.held.has u))
+    subst (λ (y : Term). (c.holds.result ≡ true) ↔ ((u : ℕ) × term_set a.g.now.tree y u × marked a.held.has u))
     (sym (is_one x tail e c.if-rest-eq-ONE.true))
     (iff-trans c.holds.ensures ((λ m. (_, refl, m)), λ (u, q, m). rw q at m))
 
-pub bounds-rest-2 : goal.bounds-rest-2
-bounds-rest-2 c = let p = c.requires in omega (arith, term-long p.1 c.if-rest-eq-ONE.false)
-
-pub bounds-rest-3 : goal.bounds-rest-3
-bounds-rest-3 c = let p = c.requires in omega (arith, term-long p.1 c.if-rest-eq-ONE.false)
+pub range_at-requires : goal.range_at-requires
+range_at-requires c = omega (arith, term-long c.requires c.if-rest-eq-ONE.false)
 
 pub meets_range-requires : goal.meets_range-requires
-meets_range-requires c = let p = c.requires in (p.0, (term-named p.1).1)
+meets_range-requires c = rw c.range_at.ensures.0 (term-named c.requires).1
 
-pub returns : goal.returns
-returns c = λ x tail e.
+pub returns-else-rest-eq-ONE : goal.returns-else-rest-eq-ONE
+returns-else-rest-eq-ONE c = λ x tail e.
     let a = c.args in
-    subst (λ (y : Term). (c.meets_range.result ≡ true) ↔ ((u : ℕ) × term_set a.t y u × marked a.held.has u))
+    let r = c.range_at.ensures in
+    subst (λ (y : Term). (c.meets_range.result ≡ true) ↔ ((u : ℕ) × term_set a.g.now.tree y u × marked a.held.has u))
     (sym (is-range x tail e c.if-rest-eq-ONE.false))
-    c.meets_range.ensures
+    (rw (r.0, r.1, r.2) at c.meets_range.ensures)

@@ -1,30 +1,25 @@
--- `fields::read_byte` meets its contract: the byte is not met, missing, below, above, or in its range. Assumes nothing.
-use native.Mathlib.Omega.{arith}
+-- `fields::read_byte` meets its contract: the number is not met, not all there, or judged. Assumes nothing.
+use Rattle.std.proofs.Common.{◌∙◌, ap, drop, length, arith, length-drop}
+use Rattle.std.proofs.lemmas.Result.{err_from_is_err_and}
 use Rattle.fields.specs.Parts.{first}
-use Rattle.fields.specs.Readings.{byte_at, byte-there, number-stays, number-early, number_in}
-use Rattle.fields.proofs.OutOfRange.{number-out}
+use Rattle.fields.specs.Readings.{number-stays, number-early}
+use Rattle.fields.proofs.OutOfRange.{byte-front, number-judged}
 use Rattle.fields.proofs.read_byte.Goals as goal
 
+pub returns-in_err-at : goal.returns-in_err-at
+returns-in_err-at c =
+    let p = err_from_is_err_and c.from_residual.result c.from_residual.ensures.1 in
+    rw (p.1, p.2) (number-stays 1 first _ _ _ _ c.in_err-at.was)
+
 pub returns-in_default : goal.returns-in_default
-returns-in_default c = number-stays 1 first _ _ _ _ (omega arith) c.in_default.is
-
-pub returns-then-bytes-at : goal.returns-then-bytes-at
-returns-then-bytes-at c = number-early 1 first _ _ _ _ (omega arith) c.in-Read.is (omega arith)
-
-pub returns-then-value-low : goal.returns-then-value-low
-returns-then-value-low c =
-    let read = c.in-Read.is in
-    let stands = c.wide-value.ensures in
-    number-out 1 first byte_at byte-there _ _ _ _ read _ stands (omega arith) (omega arith) (λ v. omega (arith, v.0))
-
-pub returns-then-high-value : goal.returns-then-high-value
-returns-then-high-value c =
-    let read = c.in-Read.is in
-    let stands = c.wide-value.ensures in
-    number-out 1 first byte_at byte-there _ _ _ _ read _ stands (omega arith) (omega arith) (λ v. omega (arith, v.1))
+returns-in_default c =
+    let few = c.in_default.len_below in
+    let left = ap length c.onward.ensures ∙ length-drop c.in_ok-at.at c.args.bytes.now in
+    rw c.early.ensures (number-early 1 first _ _ _ _ c.in_ok-at.was (omega arith))
 
 pub returns : goal.returns
 returns c =
-    let read = c.in-Read.is in
-    let stands = c.wide-value.ensures in
-    number_in 1 first byte_at byte-there _ _ _ _ read _ stands (omega arith) (omega arith) (omega arith)
+    let enough = c.in-len1-up.len_at_least in
+    let left = ap length c.onward.ensures ∙ length-drop c.in_ok-at.at c.args.bytes.now in
+    let stands = c.from.ensures ∙ ap first c.onward.ensures in
+    number-judged 1 first (λ bs a. first (drop a bs)) byte-front _ _ _ _ c.in_ok-at.was _ stands (omega arith) c.in_range.ensures

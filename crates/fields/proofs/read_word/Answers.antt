@@ -1,33 +1,25 @@
--- `fields::read_word` meets its contract: the number is not met, not all there, below, above, or in its range. Assumes nothing.
-use native.Mathlib.Omega.{arith}
+-- `fields::read_word` meets its contract: the number is not met, not all there, or judged. Assumes nothing.
+use Rattle.std.proofs.Common.{◌∙◌, ap, drop, length, arith, length-drop}
+use Rattle.std.proofs.lemmas.Result.{err_from_is_err_and}
 use Rattle.fields.specs.Parts.{first_two}
-use Rattle.fields.specs.Readings.{word_at, word-there, number-stays, number-early, number_in}
-use Rattle.fields.proofs.OutOfRange.{number-out}
+use Rattle.fields.specs.Readings.{number-stays, number-early}
+use Rattle.fields.proofs.OutOfRange.{word-front, number-judged}
 use Rattle.fields.proofs.read_word.Goals as goal
 
+pub returns-in_err-at : goal.returns-in_err-at
+returns-in_err-at c =
+    let p = err_from_is_err_and c.from_residual.result c.from_residual.ensures.1 in
+    rw (p.1, p.2) (number-stays 2 first_two _ _ _ _ c.in_err-at.was)
+
 pub returns-in_default : goal.returns-in_default
-returns-in_default c = number-stays 2 first_two _ _ _ _ (omega arith) c.in_default.is
-
-pub returns-then-bytes-at : goal.returns-then-bytes-at
-returns-then-bytes-at c = number-early 2 first_two _ _ _ _ (omega arith) c.in-Read.is (omega arith)
-
-pub returns-then-bytes-second : goal.returns-then-bytes-second
-returns-then-bytes-second c = number-early 2 first_two _ _ _ _ (omega arith) c.in-Read.is (omega arith)
-
-pub returns-then-value-low : goal.returns-then-value-low
-returns-then-value-low c =
-    let read = c.in-Read.is in
-    let stands = c.low_first-value.ensures.0 in
-    number-out 2 first_two word_at word-there _ _ _ _ read _ stands (omega arith) (omega arith) (λ v. omega (arith, v.0))
-
-pub returns-then-high-value : goal.returns-then-high-value
-returns-then-high-value c =
-    let read = c.in-Read.is in
-    let stands = c.low_first-value.ensures.0 in
-    number-out 2 first_two word_at word-there _ _ _ _ read _ stands (omega arith) (omega arith) (λ v. omega (arith, v.1))
+returns-in_default c =
+    let few = c.in_default.len_below in
+    let left = ap length c.onward.ensures ∙ length-drop c.in_ok-at.at c.args.bytes.now in
+    rw c.early.ensures (number-early 2 first_two _ _ _ _ c.in_ok-at.was (omega arith))
 
 pub returns : goal.returns
 returns c =
-    let read = c.in-Read.is in
-    let stands = c.low_first-value.ensures.0 in
-    number_in 2 first_two word_at word-there _ _ _ _ read _ stands (omega arith) (omega arith) (omega arith)
+    let enough = c.in-len2-up.len_at_least in
+    let left = ap length c.onward.ensures ∙ length-drop c.in_ok-at.at c.args.bytes.now in
+    let stands = c.low_first.ensures.0 ∙ ap first_two c.onward.ensures in
+    number-judged 2 first_two (λ bs a. first_two (drop a bs)) word-front _ _ _ _ c.in_ok-at.was _ stands (omega arith) c.in_range.ensures

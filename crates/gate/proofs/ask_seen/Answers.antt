@@ -1,16 +1,10 @@
--- `gate::ask_seen` meets its contract: what was seen is given back. Assumes nothing.
-use Rattle.policy.specs.SeenLaws.{at-within}
-use Rattle.gate.proofs.Stages.{after_kept}
+-- `gate::ask_seen` meets its contract: what was judged is told of the effect. Assumes nothing.
+use Rattle.std.specs.Prelude.{refl}
+use Rattle.gate.specs.Requests.{ask_conditions}
+use Rattle.gate.proofs.Stages.{tells}
 use Rattle.gate.proofs.ask_seen.Goals as goal
-
-pub ask_answer-answer-requires : goal.ask_answer-answer-requires
-ask_answer-answer-requires c = c.requires
 
 pub returns : goal.returns
 returns c = λ s x.
-    let stage = c.ask_answer-answer in
-    let same = after_kept x stage.result in
-    rw c.file_effect.ensures (record {
-      within = at-within x;
-      is = record { decides = stage.ensures s x; leaves = record { on-grant = λ _. same; on-refusal = λ _. same } };
-    })
+    let a = c.args in
+    tells x (ask_conditions s a.slot a.file a.mode) s c.judge_ask.result c.settle.result refl (c.judge_ask.ensures s x) c.settle.ensures

@@ -1,8 +1,5 @@
 -- `gate::end` meets its contract: the state is one that was seen so. Assumes nothing.
 use Rattle.gate.proofs.end.Goals as goal
 
-pub end_seen-requires : goal.end_seen-requires
-end_seen-requires c = (0, (_, c.examine-seen.ensures))
-
 pub returns : goal.returns
 returns c = c.end_seen.ensures 0 _ c.examine-seen.ensures

@@ -2,46 +2,37 @@
 use mathlib.Core.Path.{ap}
 use native.Mathlib.Omega.{arith}
 use lib.ListN.{length}
+use Rattle.std.proofs.lemmas.Result.{err_from_is_err_and}
 use Rattle.image.proofs.Shelf.{part-led, part-refused, part-found, part-stored}
 use Rattle.image.proofs.read_part.Goals as goal
 
-pub returns-in_default : goal.returns-in_default
-returns-in_default c = part-led _ _ _ _ c.read_byte-lead.ensures _ c.in_default.is
+pub returns-in_err-lead : goal.returns-in_err-lead
+returns-in_err-lead c =
+    let p = err_from_is_err_and c.from_residual.result c.from_residual.ensures.1 in
+    rw (p.1, p.2) (part-led _ _ _ _ c.in_err-lead.ensures c.args.k)
 
-pub read_stated-met-requires : goal.read_stated-met-requires
-read_stated-met-requires c =
-    (c.requires.0, c.read_byte-lead.ensures.within _ c.in-Read.is)
+pub read_stated-requires : goal.read_stated-requires
+read_stated-requires c = c.in_ok-lead.ensures.in_range.2
 
-pub returns-in_default-met : goal.returns-in_default-met
-returns-in_default-met c =
-    part-refused _ _ _ _ c.read_byte-lead.ensures c.in-Read.is c.read_stated-met.ensures _ c.in_default-met.is
+pub returns-in_err-end : goal.returns-in_err-end
+returns-in_err-end c =
+    let p = err_from_is_err_and c.from_residual-in_err-end.result c.from_residual-in_err-end.ensures.1 in
+    rw (p.1, p.2) (part-refused _ _ _ _ c.in_ok-lead.ensures _ c.in_err-end.ensures c.args.k)
 
 pub slice_bounds-put-count : goal.slice_bounds-put-count
-slice_bounds-put-count c =
-    let lead = c.read_byte-lead.ensures in
-    let f = part-found _ _ _ _ lead c.in-Read.is c.read_stated-met.ensures c.in-Read-met.is in
-    f.start
+slice_bounds-put-count c = let f = part-found _ _ _ _ c.in_ok-lead.ensures _ c.in_ok-end.ensures in f.start
 
 pub slice_bounds-put-start : goal.slice_bounds-put-start
-slice_bounds-put-start c =
-    let lead = c.read_byte-lead.ensures in
-    let f = part-found _ _ _ _ lead c.in-Read.is c.read_stated-met.ensures c.in-Read-met.is in
-    omega (arith, f.start, f.within)
+slice_bounds-put-start c = let f = part-found _ _ _ _ c.in_ok-lead.ensures _ c.in_ok-end.ensures in omega (arith, f.start, f.within)
 
 pub slice_bounds-put-end : goal.slice_bounds-put-end
-slice_bounds-put-end c =
-    let lead = c.read_byte-lead.ensures in
-    let f = part-found _ _ _ _ lead c.in-Read.is c.read_stated-met.ensures c.in-Read-met.is in
-    omega (arith, f.start, f.within)
+slice_bounds-put-end c = let f = part-found _ _ _ _ c.in_ok-lead.ensures _ c.in_ok-end.ensures in omega (arith, f.start, f.within)
 
 pub put-requires : goal.put-requires
 put-requires c =
-    let lead = c.read_byte-lead.ensures in
-    let f = part-found _ _ _ _ lead c.in-Read.is c.read_stated-met.ensures c.in-Read-met.is in
+    let f = part-found _ _ _ _ c.in_ok-lead.ensures _ c.in_ok-end.ensures in
     let h = c.requires in
-    (h.1, omega (arith, ap length f.is, f.long, lead.most), h.2)
+    (h.0, omega (arith, ap length f.is, f.long, c.in_ok-lead.ensures.in_range.1), h.1)
 
 pub returns : goal.returns
-returns c =
-    let lead = c.read_byte-lead.ensures in
-    part-stored _ _ _ _ lead c.in-Read.is c.read_stated-met.ensures _ c.in-Read-met.is c.put.ensures
+returns c = part-stored _ _ _ _ c.in_ok-lead.ensures _ _ c.in_ok-end.ensures c.put.ensures

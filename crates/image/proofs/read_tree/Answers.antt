@@ -1,33 +1,23 @@
--- `image::read_tree` meets its contract: the parents of the securons passed are read, the others zero. The measure is what is left of them. Assumes nothing.
-use Prim.Native.Nat.{◌-◌}
-use native.Mathlib.Omega.{arith}
-use Rattle.std.proofs.Common.{zero-le}
-use Rattle.image.proofs.Rows.{grows_none, grows-more, grows-tree}
+-- `image::read_tree` meets its contract: the parents of the securons passed are read, the others zero. Assumes nothing.
+use Rattle.std.proofs.Common.{rules}
+use Rattle.std.proofs.Common.{zero-le, arith}
+use Rattle.image.proofs.Rows.{grows_none, grows-room, grows-more, grows-refused, grows-tree}
 use Rattle.image.proofs.read_tree.Goals as goal
 
-pub loop-u-init : goal.loop-u-init
-loop-u-init c = (omega arith, omega (arith, c.requires), grows_none _)
+pub loop-k-init : goal.loop-k-init
+loop-k-init c = (zero-le, grows-room c.args.n c.args.image.now c.requires, grows_none _ _ c.requires)
 
-pub read_byte-got-requires : goal.read_byte-got-requires
-read_byte-got-requires c = zero-le
+pub returns-in_err-read : goal.returns-in_err-read
+returns-in_err-read c =
+    let w = c.loop-k.invariant in
+    search (rules, grows-refused _ _ w.2 (omega arith) c.in_err-read.ensures)
 
-pub overflow_cast-parent : goal.overflow_cast-parent
-overflow_cast-parent c = omega (arith, c.read_byte-got.ensures.most, c.loop-u.invariant, c.requires)
-
-pub bounds-parent-u : goal.bounds-parent-u
-bounds-parent-u c = omega (arith, c.requires)
-
-pub overflow_step-u : goal.overflow_step-u
-overflow_step-u c = omega (arith, c.requires)
-
-pub loop-u-preserved : goal.loop-u-preserved
-loop-u-preserved c =
-    let w = c.loop-u.invariant in
-    let room = c.requires in
-    (omega arith, omega arith, grows-more _ w.2 (omega (arith, room)) c.read_byte-got.ensures)
+pub loop-k-preserved : goal.loop-k-preserved
+loop-k-preserved c =
+    let w = c.loop-k.invariant in
+    (omega arith, w.1, grows-more _ _ w.2 (omega arith) c.in_ok-read.ensures)
 
 pub returns : goal.returns
 returns c =
-    let w = c.loop-u.invariant in
-    let range = c.requires in
-    grows-tree _ w.2 (omega (arith, w.1)) range
+    let w = c.loop-k.invariant in
+    grows-tree _ _ w.2 c.requires (omega arith)

@@ -1,13 +1,8 @@
--- `hexes` meets its contract: what was passed is written. The measure is what is left. Assumes nothing.
-use mathlib.Core.Path.{◌≡◌}
-use Prim.Native.Nat.{◌-◌, ◌≤◌}
+-- `hexes` meets its contract: the bytes that were passed are written. Assumes nothing.
 use lib.ListN.{take}
 use Rattle.lines.specs.Lines.{hexes}
 use Rattle.writing.specs.Writing.{WrittenAt}
 use Rattle.lines.proofs.hexes.Given as goal
 
-abbrev pub invariant-loop-i : goal.invariant-loop-i
-invariant-loop-i l = (l.i ≤ l.n) × WrittenAt l.initial.out l.at (hexes (take l.i l.b)) l.out l.p
-
-abbrev pub decreases-loop-i : goal.decreases-loop-i
-decreases-loop-i l = l.n - l.i
+abbrev pub invariant-loop-x : goal.invariant-loop-x
+invariant-loop-x l = WrittenAt l.initial.out l.at (hexes (take l.x-index l.b)) l.out l.p

@@ -1,14 +1,17 @@
 -- `order::in_order` meets its contract: the check finds a fault exactly if the expression is not in order. Assumes nothing.
-use mathlib.Core.Path.{refl, subst}
-use mathlib.Core.Bool.{false≢true}
+use Rattle.std.specs.Prelude.{◌≡◌, true, ◌↔◌, List, ℕ, Result, Ok, Err}
+use Rattle.std.specs.Result.{is_ok}
+use Rattle.logic.specs.Iff.{yes_iff, no_iff}
+use Rattle.expression.specs.declared.Kind.{Kind}
+use Rattle.expression.specs.Bytes.{InOrder}
 use Rattle.expression.specs.One.{in-order-not-wrong}
+use Rattle.order.specs.declared.Wrong.{Wrong}
 use Rattle.order.specs.Order.{Checks}
 use Rattle.order.proofs.in_order.Goals as goal
 
-pub returns-in-Fine : goal.returns-in-Fine
-returns-in-Fine c = ((λ _. subst (Checks _ _ _ _) c.in-Fine.is c.check-found.ensures), λ _. refl)
+fine-says : (kind : Kind) (n d : ℕ) (bs : List ℕ) (r : Result (Unit {0}) Wrong) → Checks kind n d bs r → (is_ok r ≡ true) ↔ InOrder kind n d bs
+fine-says kind n d bs (Ok u) p = yes_iff p
+fine-says kind n d bs (Err w) p = no_iff (λ o. in-order-not-wrong kind n d bs w.0 o p)
 
-pub returns-in-Wrong : goal.returns-in-Wrong
-returns-in-Wrong c =
-    let w = subst (Checks _ _ _ _) c.in-Wrong.is c.check-found.ensures in
-    ((λ e. absurd (false≢true e)), λ o. absurd (in-order-not-wrong _ _ _ _ _ o w))
+pub returns : goal.returns
+returns c = rw c.is_ok.ensures.value (fine-says _ _ _ _ _ c.check.ensures)

@@ -11,7 +11,7 @@ use Rattle.order.proofs.Scanning.{At}
 use Rattle.order.proofs.scan.Given as goal
 
 abbrev pub invariant-loop-at : goal.invariant-loop-at
-invariant-loop-at l = (kind : Kind) → (l.or ≡ true) ↔ MayOR kind → At kind l.n l.depth.0 l.b l.due l.at
+invariant-loop-at l = (kind : Kind) → (l.or ≡ true) ↔ MayOR kind → At kind l.size.n l.size.depth.0 l.b l.due l.at
 
 abbrev pub decreases-loop-at : goal.decreases-loop-at
 decreases-loop-at l = length l.b - l.at

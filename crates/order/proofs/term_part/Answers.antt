@@ -1,19 +1,20 @@
 -- `order::term_part` meets its contract: 01 and 02 begin a term, and nothing else does. Assumes nothing.
-use Rattle.std.proofs.Common.{zero-le}
+use Rattle.std.proofs.Common.{arith, ◌≡◌, get_or}
 use Rattle.expression.specs.Scan.{rest-other}
-use Rattle.order.proofs.Terms.{head-stuck, code-stuck}
+use Rattle.order.proofs.Terms.{code-stuck}
 use Rattle.order.proofs.term_part.Goals as goal
 
-pub returns-then-code-eq-ONE : goal.returns-then-code-eq-ONE
-returns-then-code-eq-ONE c = λ kind none. c.one_part.ensures kind _
+pub returns-in-1 : goal.returns-in-1
+returns-in-1 c = λ kind none. c.one_part.ensures kind
 
-pub returns-then-code-eq-RANGE : goal.returns-then-code-eq-RANGE
-returns-then-code-eq-RANGE c = λ kind none. c.range_part.ensures kind
+pub returns-in-2 : goal.returns-in-2
+returns-in-2 c = λ kind none. c.range_part.ensures kind
 
-pub returns : goal.returns
-returns c =
+pub returns-in_default : goal.returns-in_default
+returns-in_default c =
     let a = c.args in
-    let p = c.requires in
-    λ kind none. head-stuck kind a.n a.depth.0 c.stuck.ensures.0 c.stuck.ensures.1 zero-le
-    (code-stuck kind a.n a.depth.0 p.0 a.rest.now p.1 (λ k r.
-    rest-other kind a.n a.depth.0 k _ r c.if-code-eq-ONE.false c.if-code-eq-RANGE.false none.0 none.1))
+    let n = a.size.n in
+    let d = a.size.depth.0 in
+    let not-one : get_or a.rest.now 0 0 ≡ 1 → ⊥ = omega arith in
+    let not-range : get_or a.rest.now 0 0 ≡ 2 → ⊥ = omega arith in
+    λ kind none. code-stuck kind n d a.size.some a.rest.now c.requires (λ k r. rest-other kind n d k _ r not-one not-range none.0 none.1)

@@ -4,6 +4,4 @@ use Rattle.policy.proofs.Slots.{slot-within}
 use Rattle.policy.proofs.slot_is.Goals as goal
 
 pub returns : goal.returns
-returns c =
-    let a = c.args in
-    (iff-trans (most-iff a.slot a.count) (slot-within a.count a.slot))
+returns c = rw c.from.ensures (iff-trans (most-iff c.args.slot c.args.count) (slot-within c.args.count c.args.slot))

@@ -1,9 +1,9 @@
--- `records::read_alone` meets its contract: bytes follow the record, or none do. Assumes nothing.
-use Rattle.records.specs.Places.{alone-not, alone-all}
+-- `records::read_alone` meets its contract: none stands there, bytes follow it, or none do. Assumes nothing.
+use Rattle.records.specs.Places.{alone-not}
 use Rattle.records.proofs.read_alone.Goals as goal
 
-pub returns-then-parted-bytes : goal.returns-then-parted-bytes
-returns-then-parted-bytes c = alone-not _ _ _ c.read_record-parted.ensures c.if-parted-bytes.true c.none.ensures
+pub returns-in_err-found : goal.returns-in_err-found
+returns-in_err-found c = rw c.from_residual.ensures (λ code fs w. c.in_err-found.ensures code fs _ w)
 
-pub returns : goal.returns
-returns c = alone-all _ _ c.read_record-parted.ensures c.if-parted-bytes.false
+pub returns-then-found-bytes : goal.returns-then-found-bytes
+returns-then-found-bytes c = alone-not _ _ c.in_ok-found.ensures c.if-found-bytes.true

@@ -1,32 +1,21 @@
--- `securon::SecuronSet::apart` meets its contract: the flag says of every number passed that it is not marked in both. Assumes nothing.
-use mathlib.Core.Path.{◌≡◌, sym, ◌∙◌}
-use mathlib.Core.Bool.{true, false, false≢true}
-use mathlib.Core.Logic.{⊎_elim}
-use Prim.Native.Nat.{◌-◌}
-use native.Mathlib.Omega.{arith}
-use borrow.Author.Rules.{rules}
-use lib.ListN.{length}
-use Rattle.securon.specs.Sets.{set_room}
-use Rattle.logic.specs.Every.{flag-none, flag-keep, flag-drop, flag-all}
-use Rattle.securon.specs.Laws.{beyond}
+-- `securon::SecuronSet::apart` meets its contract: the flag says of every number that it is not marked in both. Assumes nothing.
+use Rattle.std.proofs.Common.{rules, ◌≡◌, refl, true, false, ◌↔◌, Bool, length}
+use Rattle.std.specs.Prelude.{◌&&◌, not}
+use Rattle.std.proofs.lemmas.Bool.{false≢true}
+use Rattle.std.proofs.lemmas.Iterator.{YieldsList-from_zip, YieldsList-from_slice}
+use Rattle.securon.proofs.Pairs.{folded}
 use Rattle.securon.proofs.SecuronSet.apart.Goals as goal
-use Rattle.securon.proofs.SecuronSet.apart.Goals.{then-other-k+then-self-k, then-other-k+else-self-k, else-other-k}
 
-pub loop-k-init : goal.loop-k-init
-loop-k-init c = (search rules, flag-none _)
-
-pub loop-k-preserved : goal.loop-k-preserved
-loop-k-preserved c =
-    let f = c.loop-k.invariant.1 in (
-      omega arith,
-      elim c.if-other-k.branch [
-        | then-other-k+then-self-k w ↦ rw w.none-is (flag-drop f (λ h. h w.if-self-k.true w.if-other-k.true))
-        | then-other-k+else-self-k w ↦ rw w.none-is (flag-keep f (λ m n. false≢true (sym w.if-self-k.false ∙ m)))
-        | else-other-k w ↦ rw w.none-is (flag-keep f (λ m n. false≢true (sym w.if-other-k.false ∙ n)))
-      ],
-    )
+separate : (x y : Bool) → (not (x && y) ≡ true) ↔ (x ≡ true → y ≡ true → ⊥)
+separate true true = ((λ e _ _. false≢true e), λ h. absurd (h refl refl))
+separate true false = ((λ _ _ f. false≢true f), λ _. refl)
+separate false y = ((λ _ e _. false≢true e), λ _. refl)
 
 pub returns : goal.returns
 returns c =
-    let g : length c.args.self.has ≡ set_room = search rules in
-    flag-all c.loop-k.invariant.1 (λ u h m. absurd (beyond c.args.self.has u (omega arith) m))
+    let a = c.args in
+    let long : length a.self.has ≡ length a.other.has = search rules in
+    let here = YieldsList-from_slice a.self.has (search rules) in
+    let there = YieldsList-from_slice a.other.has (search rules) in
+    let pairs = YieldsList-from_zip {s = c.zip-pairs.result} here there in
+    folded _ _ separate (λ y e _. false≢true e) a.self.has a.other.has long pairs c.fold.ensures.ran (λ ok x next f j. search rules)

@@ -1,33 +1,20 @@
--- `securon::SecuronSet::part` meets its contract: the flag says of every number passed that who is marked here is marked there. Assumes nothing.
-use mathlib.Core.Path.{◌≡◌, sym, ◌∙◌}
-use mathlib.Core.Bool.{true, false, false≢true}
-use mathlib.Core.Logic.{⊎_elim}
-use Prim.Native.Nat.{◌-◌}
-use native.Mathlib.Omega.{arith}
-use borrow.Author.Rules.{rules}
-use borrow.Author.Tests.{not-true, not-false}
-use lib.ListN.{length}
-use Rattle.securon.specs.Sets.{set_room}
-use Rattle.logic.specs.Every.{flag-none, flag-keep, flag-drop, flag-all}
-use Rattle.securon.specs.Laws.{beyond}
+-- `securon::SecuronSet::part` meets its contract: the flag says of every number that who is marked here is marked there. Assumes nothing.
+use Rattle.std.proofs.Common.{rules, ◌≡◌, refl, true, false, ◌↔◌, Bool, length}
+use Rattle.std.specs.Prelude.{◌||◌, not}
+use Rattle.std.proofs.lemmas.Bool.{false≢true}
+use Rattle.std.proofs.lemmas.Iterator.{YieldsList-from_zip, YieldsList-from_slice}
+use Rattle.securon.proofs.Pairs.{folded}
 use Rattle.securon.proofs.SecuronSet.part.Goals as goal
-use Rattle.securon.proofs.SecuronSet.part.Goals.{then-self-k+then-not-whole-k, then-self-k+else-not-whole-k, else-self-k}
 
-pub loop-k-init : goal.loop-k-init
-loop-k-init c = (search rules, flag-none _)
-
-pub loop-k-preserved : goal.loop-k-preserved
-loop-k-preserved c =
-    let f = c.loop-k.invariant.1 in (
-      omega arith,
-      elim c.if-self-k.branch [
-        | then-self-k+then-not-whole-k w ↦ rw w.ok-is (flag-drop f (λ h. false≢true (sym w.if-not-whole-k.true ∙ h w.if-self-k.true)))
-        | then-self-k+else-not-whole-k w ↦ rw w.ok-is (flag-keep f (λ m. w.if-not-whole-k.false))
-        | else-self-k w ↦ rw w.ok-is (flag-keep f (λ m. absurd (false≢true (sym w.if-self-k.false ∙ m))))
-      ],
-    )
+covers : (x y : Bool) → ((not x || y) ≡ true) ↔ (x ≡ true → y ≡ true)
+covers true y = ((λ e _. e), λ h. h refl)
+covers false y = ((λ _ e. absurd (false≢true e)), λ _. refl)
 
 pub returns : goal.returns
 returns c =
-    let g : length c.args.self.has ≡ set_room = search rules in
-    flag-all c.loop-k.invariant.1 (λ u h m. absurd (beyond c.args.self.has u (omega arith) m))
+    let a = c.args in
+    let long : length a.self.has ≡ length a.whole.has = search rules in
+    let here = YieldsList-from_slice a.self.has (search rules) in
+    let there = YieldsList-from_slice a.whole.has (search rules) in
+    let pairs = YieldsList-from_zip {s = c.zip-pairs.result} here there in
+    folded _ _ covers (λ y e. absurd (false≢true e)) a.self.has a.whole.has long pairs c.fold.ensures.ran (λ ok x next f j. search rules)

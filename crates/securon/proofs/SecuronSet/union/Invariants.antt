@@ -1,12 +1,12 @@
--- `securon::SecuronSet::union` meets its contract: the members of the other that were passed have been added. Assumes nothing.
-use mathlib.Core.Path.{◌≡◌, ◌∙◌}
-use Prim.Native.Nat.{◌≤◌, ◌-◌}
-use Rattle.securon.specs.Sets.{set_room, marked}
-use Rattle.securon.specs.Laws.{Joined}
+-- `securon::SecuronSet::union` meets its contract: the marks passed have the other's added, and the rest stand as they were. Assumes nothing.
+use Rattle.std.proofs.Common.{◌≡◌, false, ◌||◌, ℕ, ◌<◌, ◌≤◌, length, get_or}
+use Rattle.securon.specs.Sets.{set_room}
 use Rattle.securon.proofs.SecuronSet.union.Given as goal
 
 abbrev pub invariant-loop-k : goal.invariant-loop-k
-invariant-loop-k l = (l.k ≤ set_room) × Joined l.initial.r.has (marked l.more.has) l.r.has l.k
-
-abbrev pub decreases-loop-k : goal.decreases-loop-k
-decreases-loop-k l = set_room - l.k
+invariant-loop-k l =
+    record {
+      long : length l.mark-items ≡ set_room;
+      passed : (u : ℕ) → u < l.k → get_or l.mark-items u false ≡ (get_or l.fn.self.has u false || get_or l.more.has u false);
+      left : (u : ℕ) → l.k ≤ u → get_or l.mark-items u false ≡ get_or l.fn.self.has u false;
+    }

@@ -1,13 +1,11 @@
 -- `tree::Tree::levels` meets its contract: the levels of the securons passed stand in the array, and the largest is kept. Assumes nothing.
-use mathlib.Core.Path.{◌≡◌, ap}
-use mathlib.Core.Logic.{inl, inr, ⊎_elim}
-use Prim.Native.Nat.{◌-◌}
+use mathlib.Core.Path.{◌≡◌}
+use mathlib.Core.Logic.{◌⊎◌}
+use Prim.Native.Nat.{◌≤◌}
+use borrow.Author.Rules.{rules}
 use native.Mathlib.Omega.{arith}
-use Rattle.logic.specs.Iff.{not-then-false}
-use Rattle.securon.specs.declared.Level.{Level}
 use Rattle.tree.proofs.Rising.{rising-root, rising-more, risen}
 use Rattle.tree.proofs.Tree.levels.Goals as goal
-use Rattle.tree.proofs.Tree.levels.Goals.{then-over, else-over}
 
 pub loop-u-init : goal.loop-u-init
 loop-u-init c = (omega arith, omega (arith, c.requires.count), rising-root _)
@@ -39,20 +37,10 @@ loop-u-preserved c =
     let l = c.loop-u in
     let less = p.smaller _ l.invariant.0 c.loop-u-test.true in
     let next = c.next-level in
-    let more = rising-more l.invariant.2 next.result c.if-over.depth.0 next.ensures l.invariant.0 (omega (arith, p.count)) less in (
-      omega arith,
-      omega arith,
-      elim c.if-over.branch [
-        | then-over w ↦
-            let e = ap (λ (x : Level). x.0) w.depth-is in
-            let over = c.over.ensures.0 w.if-over.true in
-            more (omega arith) (omega arith) (inl e)
-        | else-over w ↦
-            let e = ap (λ (x : Level). x.0) w.depth-is in
-            let not-over = not-then-false c.over.ensures w.if-over.false in
-            more (omega arith) (omega arith) (inr e)
-      ],
-    )
+    let more = rising-more l.invariant.2 next.result c.max-depth.result.0 next.ensures l.invariant.0 (omega (arith, p.count)) less in
+    let max = c.max-depth.result in
+    let largest : (l.depth.0 ≤ max.0) × (next.result.0 ≤ max.0) × ((max.0 ≡ next.result.0) ⊎ (max.0 ≡ l.depth.0)) = search rules in
+    (omega arith, omega arith, more largest.0 largest.1 largest.2)
 
 pub returns : goal.returns
 returns c =

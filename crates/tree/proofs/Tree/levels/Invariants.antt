@@ -1,5 +1,4 @@
 -- `tree::Tree::levels` meets its contract: the levels of the securons passed stand in the array, and the largest is kept. Assumes nothing.
-use mathlib.Core.Path.{◌≡◌}
 use Prim.Native.Nat.{◌<◌, ◌≤◌, ◌-◌}
 use Rattle.tree.proofs.Rising.{Rising}
 use Rattle.tree.proofs.Tree.levels.Given as goal
