@@ -87,7 +87,7 @@ module _ {A : Type 0} (F : ℕ → Format A) (bs : List ℕ) (m : Result ℕ Ref
       (reads_then (times k F) (λ us. F k >>= λ u. give (us ++ (u ∷ []))) bs m vs b (read_to all c) f last)
 
   -- where so many are refused, one more is; and so are any that are more
-  one-more-refused : (k : ℕ) (e : Refused) → Reads (times k F) bs m (Err e) → Reads (times (suc k) F) bs m (Err e)
+  pub one-more-refused : (k : ℕ) (e : Refused) → Reads (times k F) bs m (Err e) → Reads (times (suc k) F) bs m (Err e)
   one-more-refused k e f = then-refused (times k F) (λ us. F k >>= λ u. give (us ++ (u ∷ []))) bs m e f
 
   more-refused : (k n : ℕ) (e : Refused) → k ≤ n → Reads (times k F) bs m (Err e) → Reads (times n F) bs m (Err e)

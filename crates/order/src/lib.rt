@@ -45,11 +45,12 @@ fn may_or(kind: Kind) -> bool
     matches!(kind, Kind::Protection)
 }
 
-// Whether a code is an operator that may stand.
+// Whether a code is an operator that may stand: AND, and up to OR where it may. (One test of the byte, whatever `or` is: a scan with one for each operator
+// took longer.)
 fn joins(code: u8, or: bool) -> bool
     ensures { (result ≡ true) ↔ ((code ≡ 3) ⊎ ((code ≡ 4) × (or ≡ true))) }
 {
-    code == AND || code == OR && or
+    (AND..=AND + u8::from(or)).contains(&code)
 }
 
 // How a scan stops at `at`: at a byte that can't stand, or at the end, where more is needed.

@@ -269,6 +269,9 @@ stands-in-place bs r w =
 pub stands-alone : (bs : List ℕ) (r : Record) (w : Stands bs r) → r.end ≡ length bs → w.rest ≡ []
 stands-alone bs r w e = nil-of w.rest (omega (arith, w.ends))
 
+pub alone-none : (bs : List ℕ) → PartedIs bs None → AloneIs bs None
+alone-none bs n code fs v = n code fs [] v
+
 pub alone-not : (bs : List ℕ) (r : Record) → Stands bs r → r.end < length bs → AloneIs bs None
 alone-not bs r w h code fs v = omega (arith, w.ends, ap length (one-record w.recorded v).2)
 

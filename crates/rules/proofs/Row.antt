@@ -1,8 +1,16 @@
--- The rules speak alike of sets that have the same members. Assumes nothing.
-use Rattle.std.specs.Prelude.{◌↔◌, ℕ}
-use Rattle.std.proofs.Common.{inl, inr, ⊎_elim}
+-- The rules speak alike of sets that have the same members; and E and G stand at a file's odd places. Assumes nothing.
+use Rattle.std.specs.Prelude.{◌≡◌, ◌↔◌, ℕ, ◌<◌, ◌%◌}
+use Rattle.std.proofs.Common.{inl, inr, ⊎_elim, subst}
 use Rattle.securon.specs.Sets.{Set, ◌⊆◌, ◌≐◌}
 use Rattle.securon.specs.Laws.{same-part}
+use Rattle.expression.specs.declared.Kind.{Kind}
+use Rattle.expression.specs.declared.Kind.TheVariants.{Privilege}
+use Rattle.shelf.specs.Shelf.{PartInOrder}
+use Rattle.shelf.specs.Kept.{odd-kind}
+use Rattle.policy.specs.declared.File.{File}
+use Rattle.policy.specs.State.{file_places}
+use Rattle.policy.specs.WellFormed.{FileInOrder}
+use Rattle.policy.specs.Parts.{file-by-place}
 use Rattle.rules.specs.Rules.{MediatesRow, EntersOrLeaves}
 
 -- the mediating test, with sets that have the same members
@@ -32,3 +40,7 @@ same-altered a b s = (
       (λ m. (s u).1 (h u (inl ((b u).0 m.0, λ n. m.1 ((a u).1 n)))))
       (λ m. (s u).1 (h u (inr ((a u).0 m.0, λ n. m.1 ((b u).1 n))))),
 )
+
+-- E and G stand at a file's odd places
+pub odd_part : {n d : ℕ} {f : File} → FileInOrder n d f → (k : ℕ) → k < file_places → k % 2 ≡ 1 → PartInOrder Privilege n d f.lens f.bytes k
+odd_part {n} {d} {f} o k l e = subst (λ (kind : Kind). PartInOrder kind n d f.lens f.bytes k) (odd-kind k e) (file-by-place o k l)

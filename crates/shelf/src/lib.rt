@@ -89,6 +89,16 @@ pub fn stored<'a>(lens: &'a [u8], bytes: &'a [u8], k: usize) -> &'a [u8]
     &bytes[start..end]
 }
 
+// The bytes of x in place of as many. (One by one: with `copy_from_slice` here the library for C would need `memmove` from whoever links it.)
+fn copy(to: &mut [u8], x: &[u8])
+    requires { length to.old ≡ length x.now }
+    ensures { to.new ≡ x.now }
+{
+    for (k, byte) in to.iter_mut().enumerate() {
+        *byte = x[k];
+    }
+}
+
 // Stores x at place k: its length, its bytes, and zero past them; all else stays.
 pub fn put(lens: &mut [u8], bytes: &mut [u8], k: usize, x: &[u8])
     requires { (k < length lens.old) × (length x.now ≤ longest) × (longest * k + longest ≤ length bytes.old) }
@@ -98,6 +108,6 @@ pub fn put(lens: &mut [u8], bytes: &mut [u8], k: usize, x: &[u8])
     lens[k] = x.len() as u8;
     let at = LONGEST * k;
     let end = at + x.len();
-    bytes[at..end].copy_from_slice(x);
+    copy(&mut bytes[at..end], x);
     bytes[end..at + LONGEST].fill(0);
 }

@@ -8,7 +8,6 @@ use answer::Answer;
 use expression::Kind;
 use order::Mutable;
 use policy::State;
-use std::alloc::{AllocError, Global};
 use std::io;
 use std::io::Write;
 
@@ -89,15 +88,14 @@ fn digit(x: u8) -> u8
     }
 }
 
-// The bytes that stand after a call's word, each a space and two digits.
-fn arguments(alloc: Global, words: &[u8]) -> Result<Vec<u8>, AllocError> {
-    let mut args = Vec::new(alloc);
+// The bytes that stand after a call's word, each a space and two digits: as many as there is room for. (Fixed memory: no line can fail for want of more.)
+fn arguments<'a>(words: &[u8], room: &'a mut [u8; MOST]) -> &'a [u8] {
     let space = words.iter().position(|x| *x == b' ');
     let bytes = &words[space.unwrap_or(words.len())..];
-    for byte in bytes.chunks_exact(3).take(MOST) {
-        args.push(16 * digit(byte[1]) + digit(byte[2]))?;
+    for (arg, byte) in room.iter_mut().zip(bytes.chunks_exact(3)) {
+        *arg = 16 * digit(byte[1]) + digit(byte[2]);
     }
-    Ok(args)
+    &room[..MOST.min(bytes.len() / 3)]
 }
 
 // Byte k of a call, 0 where there is none.
@@ -174,7 +172,7 @@ fn perform(s: &mut State, call: Call, args: &[u8]) -> Option<Told> {
 }
 
 // A line: its name and its call. What a call answers that has no name is not written: it makes a state.
-fn line<W: Write>(alloc: Global, out: &mut W, s: &mut State, text: &[u8]) -> io::Result<()> {
+fn line<W: Write>(out: &mut W, s: &mut State, text: &[u8]) -> io::Result<()> {
     if text.starts_with(b"#") {
         return Ok(());
     }
@@ -185,8 +183,8 @@ fn line<W: Write>(alloc: Global, out: &mut W, s: &mut State, text: &[u8]) -> io:
     let Some(call) = Call::parse(words) else {
         return Ok(());
     };
-    let args = arguments(alloc, words)?;
-    match perform(s, call, args.as_slice()) {
+    let mut room = [0u8; MOST];
+    match perform(s, call, arguments(words, &mut room)) {
         None => Ok(()),
         Some(Told::Answer(_)) if name.is_empty() => Ok(()),
         Some(told) => write_line(out, name, &told),
@@ -194,10 +192,10 @@ fn line<W: Write>(alloc: Global, out: &mut W, s: &mut State, text: &[u8]) -> io:
 }
 
 // Line by line, from the fresh state on.
-pub(crate) fn run<W: Write>(alloc: Global, out: &mut W, input: &[u8]) -> io::Result<()> {
+pub(crate) fn run<W: Write>(out: &mut W, input: &[u8]) -> io::Result<()> {
     let mut s = State::fresh();
     for text in input.split(|x| *x == b'\n') {
-        line(alloc, out, &mut s, text)?;
+        line(out, &mut s, text)?;
     }
     Ok(())
 }

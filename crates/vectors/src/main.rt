@@ -19,7 +19,7 @@ fn main(rt: HostRuntime) -> io::Result<()> {
     let mut input = Vec::new(rt.alloc());
     rt.stdin().take(MOST as u64).read_to_end(&mut input)?;
     let mut out = BufWriter::with_capacity(rt.alloc(), MOST, rt.stdout())?;
-    cases::run(rt.alloc(), &mut out, input.as_slice())?;
+    cases::run(&mut out, input.as_slice())?;
     images::run(&mut out)?;
     out.flush()
 }

@@ -8,4 +8,4 @@ use Rattle.shelf.proofs.put.Goals as goal
 pub returns : goal.returns
 returns c =
     let a = c.args in
-    record { lengths = refl; stored = rw c.copy_from_slice.ensures.after (written a.bytes.now a.k a.x.now (omega arith) (omega arith) (search rules)) }
+    record { lengths = refl; stored = rw c.copy.ensures (written a.bytes.now a.k a.x.now (omega arith) (omega arith) (search rules)) }
