@@ -4,6 +4,9 @@ use policy::State;
 use std::io;
 use std::io::Write;
 
+// The room of an image, a byte more than the longest. One is lent to all cases, since each of its own is as much stack again.
+const ROOM: usize = 51816;
+
 // How many bytes the longest image has; where its role count and its file count stand.
 const LONGEST_IMAGE: usize = 51815;
 
@@ -36,13 +39,11 @@ fn full_byte(k: usize) -> u8 {
     }
 }
 
-// Its first N bytes, or more than it has.
-fn full_image<const N: usize>() -> [u8; N] {
-    let mut image = [0u8; N];
+// The longest image, and a byte more.
+fn fill(image: &mut [u8; ROOM]) {
     for (k, x) in image.iter_mut().enumerate() {
         *x = full_byte(k);
     }
-    image
 }
 
 // The first n bytes.
@@ -51,38 +52,55 @@ fn first(image: &[u8], n: usize) -> &[u8] {
 }
 
 // The longest image, and that with a byte less or a byte more.
-fn longest<W: Write>(out: &mut W) -> io::Result<()> {
-    let image = full_image::<51816>();
-    fresh(out, b"the longest image", first(&image, LONGEST_IMAGE))?;
-    fresh(out, b"the longest, a byte less", first(&image, 51814))?;
-    fresh(out, b"the longest, a byte more", &image)
+fn longest<W: Write>(out: &mut W, image: &mut [u8; ROOM]) -> io::Result<()> {
+    fill(image);
+    fresh(out, b"the longest image", first(image, LONGEST_IMAGE))?;
+    fresh(out, b"the longest, a byte less", first(image, 51814))?;
+    fresh(out, b"the longest, a byte more", image)
 }
 
 // The longest image with a wrong byte far behind; then another before it, which decides.
-fn longest_wrong_late<W: Write>(out: &mut W) -> io::Result<()> {
-    let mut image = full_image::<LONGEST_IMAGE>();
+fn longest_wrong_late<W: Write>(out: &mut W, image: &mut [u8; ROOM]) -> io::Result<()> {
+    fill(image);
     image[51814] = 64;
-    fresh(out, b"the longest, its last byte wrong", &image)?;
+    fresh(
+        out,
+        b"the longest, its last byte wrong",
+        first(image, LONGEST_IMAGE),
+    )?;
     image[51813] = 3;
     image[51814] = 1;
-    fresh(out, b"the longest, not whole at its end", &image)?;
+    fresh(
+        out,
+        b"the longest, not whole at its end",
+        first(image, LONGEST_IMAGE),
+    )?;
     image[51766] = 49;
-    fresh(out, b"the longest, its last length 49", &image)
+    fresh(
+        out,
+        b"the longest, its last length 49",
+        first(image, LONGEST_IMAGE),
+    )
 }
 
 // The longest image with a wrong count or parent.
-fn longest_wrong_early<W: Write>(out: &mut W) -> io::Result<()> {
-    let mut image = full_image::<LONGEST_IMAGE>();
+fn longest_wrong_early<W: Write>(out: &mut W, image: &mut [u8; ROOM]) -> io::Result<()> {
+    fill(image);
     image[FILE_COUNT] = 33;
-    fresh(out, b"the longest, 33 files", &image)?;
+    fresh(out, b"the longest, 33 files", first(image, LONGEST_IMAGE))?;
     image[ROLE_COUNT] = 33;
-    fresh(out, b"the longest, 33 roles", &image)?;
+    fresh(out, b"the longest, 33 roles", first(image, LONGEST_IMAGE))?;
     image[68] = 63;
-    fresh(out, b"the longest, its last parent 63", &image)
+    fresh(
+        out,
+        b"the longest, its last parent 63",
+        first(image, LONGEST_IMAGE),
+    )
 }
 
 pub(crate) fn run<W: Write>(out: &mut W) -> io::Result<()> {
-    longest(out)?;
-    longest_wrong_late(out)?;
-    longest_wrong_early(out)
+    let mut image = [0u8; ROOM];
+    longest(out, &mut image)?;
+    longest_wrong_late(out, &mut image)?;
+    longest_wrong_early(out, &mut image)
 }
