@@ -12,7 +12,7 @@ use Rattle.tree.specs.Tree.{Related, level_in, Ready}
 use Rattle.tree.specs.Laws.{one-level}
 use Rattle.expression.specs.Expression.{Between}
 
-between-iff : {t : Tree} {l : Levels} → Ready t l → (s i j u : ℕ) → u < t.n
+pub between-iff : {t : Tree} {l : Levels} → Ready t l → (s i j u : ℕ) → u < t.n
     → ((i ≤ level_in l u) × (level_in l u ≤ j) × Related t.parent u s) ↔ Between t s i j u
 between-iff {t} {l} ready s i j u h = (
   (λ w. record { present = h; related = w.2; level = level_in l u; has-level = ready.levels.level u h; from-i = w.0; to_j = w.1 }),

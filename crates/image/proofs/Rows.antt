@@ -123,7 +123,7 @@ module _ (n : ℕ) (bs : List ℕ) where
 
 -- roles or files
 module _ {X : Type 0} (make : Expressions → X) (none : X) (most : ℕ) (F : Format Expressions) (bs : List ℕ) where
-  rows_none : {at : ℕ} → RowsMade make none most F 0 bs (Ok at) (replicate most none) at
+  pub rows_none : {at : ℕ} → RowsMade make none most F 0 bs (Ok at) (replicate most none) at
   rows_none {at} = record {
     rows = [];
     reads = reads-give [] bs at;
